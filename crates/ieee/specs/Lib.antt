@@ -1,0 +1,10 @@
+pub mod Root
+pub mod Numbers
+pub mod Squares
+pub mod Values
+pub mod Bracket
+pub mod Finite
+pub mod Order
+pub mod Larger
+pub mod Sums
+pub mod Rows

@@ -1,0 +1,3 @@
+pub mod Scaling
+pub mod Signs
+pub mod Turns
