@@ -1,0 +1,9 @@
+pub mod Constants
+pub mod Vectors
+pub mod Process
+pub mod State
+pub mod Inner
+pub mod Loop
+pub mod Psi
+pub mod Refusals
+pub mod Play
