@@ -213,12 +213,12 @@ module _ (f : Format) (s : Settings) where
 
   -- TIME was answered yes or no: "after a no, one more step runs"
   unfoldable pub timed : ℕ → Next → Iterate → Bool → Solve
-  timed l next i inTime = step (standing l inTime) next (counted i)
+  timed l next i inTime = step (standing l inTime) next i
 
-  -- "Between steps TIME is asked if a limit is set": at most l steps more
+  -- "Between steps TIME is asked if a limit is set": at most l steps more, and the next one is counted
   unfoldable pub laps : ℕ → Iterate → Solve
   laps zero i = finish notConvergedIterations i
-  laps (suc l) i = cond (s .limited) (ask time decision (timed l (laps l) i)) (timed l (laps l) i true)
+  laps (suc l) i = cond (s .limited) (ask time decision (timed l (laps l) (counted i))) (timed l (laps l) (counted i) true)
 
   -- ---- the start
 
