@@ -1,21 +1,20 @@
 -- What `root` is, said by whole-number squares alone: the nearer of two neighbouring floats, and never a tie. Assumes nothing.
-use mathlib.Core.Path.{_≡_, refl, sym, ap, _∙_, subst}
+use mathlib.Core.Path.{_≡_, refl, sym, ap, _∙_}
 use mathlib.Core.Logic.{_⊎_, inl, inr}
 use Prim.Native.Nat.{ℕ, zero, suc, _+_, _-_, _*_, _/_, _%_, _^_, _≤_, _<_, compare, Ordering, Ordering·lt, Ordering·eq, Ordering·gt}
-use native.Mathlib.Nat.{le-refl, le-trans, le-of-eq, lt-irrefl, lt-of-lt-of-le, lt-of-le-of-lt, le-of-suc-le-suc, lt-of-not-le, not-le-of-lt, mul-one, one-mul, mul-comm, mul-assoc, mul-left-comm, mul-right-comm, mul-mul-mul-comm, mul-le-mul, mul-le-mul-right, eq-of-mul-eq-mul-right, div-mul-le-self, lt-div-mul-add, le-div-iff-mul-le, pow-succ', pow-suc, two-pow-succ, zero-lt-suc}
+use native.Mathlib.Nat.{le-trans, le-of-eq, lt-irrefl, lt-of-lt-of-le, lt-of-le-of-lt, le-of-suc-le-suc, lt-of-not-le, mul-one, one-mul, mul-comm, mul-assoc, mul-left-comm, mul-right-comm, mul-mul-mul-comm, mul-le-mul, mul-le-mul-right, div-mul-le-self, lt-div-mul-add, le-div-iff-mul-le, pow-succ', two-pow-succ, zero-lt-suc}
 use native.Mathlib.Omega.{arith}
-use mathlib.Core.Bool.{Bool, true, false, not, _&&_, true≢false}
+use mathlib.Core.Bool.{false, not, _&&_}
 use lib.IntN.{ℤ, pos, negsuc}
-use lib.Dec.{T, leb, ltb, eqb, isLe, isEq, leb→le, nleb→lt, eqb→eq, ltb→lt, lit≤, lit<}
+use lib.Dec.{T, leb, ltb, eqb, isLe, isEq, leb→le, nleb→lt, eqb→eq, ltb→lt, lit≤}
 use lib.Arith.{lt-of-le-ne}
 use lib.Pow.{pow-add, pow-pos, pow-mono, pow-lt}
-use lib.Ieee.{Float, nan, inf, fin, Format, binary32, binary64, prec, emax, low, up, down, size, nearest, units, fits}
-use lib.Ieee.Digits.{size-lt, size-le, size-reaches}
-use lib.Ieee.Fits.{two, kept-lt, and-l, and-r, down-pos}
+use lib.Ieee.{Float, fin, Format, binary32, binary64, prec, emax, low, up, down, size, nearest, units, fits}
+use lib.Ieee.Digits.{size-lt, size-reaches}
+use lib.Ieee.Fits.{two, kept-lt, and-l, and-r}
 use lib.Ieee.Exact.{HasValue}
 use Rattle.ieee.specs.Root.{root, rootOf, wholeRoot}
-use Rattle.ieee.specs.Squares.{IsRoot, wholeRoot-is, sq-one, sq-double, sq-lt-back, nearer, rootOf-at, compare-lt, compare-gt}
-use Rattle.ieee.specs.Values.{root-value}
+use Rattle.ieee.specs.Squares.{wholeRoot-is, sq-one, sq-double, sq-lt-back, nearer, rootOf-at, compare-lt, compare-gt, root-value}
 
 -- r is the float nearest to the root of n, a number of squares of the format's smallest value. q has all the digits that the format keeps, so the floats q * 2 ^ k and (q + 1) * 2 ^ k
 -- are neighbours. The root of n lies from the first on and below the second, and the square of what lies midway, taken four times, tells which is nearer. It is never n * 4.

@@ -1,12 +1,11 @@
 -- The order of the floats that are not negative, and what keeps a float from being negative. Assumes nothing.
 use Prim.Native.Nat.{ℕ, zero, suc, _+_, _*_, _^_, _/_, _%_, _-_, _<_, _≤_, compare}
-use mathlib.Core.Path.{_≡_, refl, sym, ap, _∙_, subst}
+use mathlib.Core.Path.{_≡_, refl, sym, ap, subst}
 use mathlib.Core.Bool.{Bool, true, false, not, cond, _&&_}
 use mathlib.Core.Logic.{_⊎_, inl, inr}
 use native.Mathlib.Omega.{arith}
 use native.Mathlib.Decide.{decLt}
-use borrow.Author.Tests.{lt-ltb, le-ltb, ltb-true, ltb-false}
-use lib.IntN.{ℤ, pos}
+use borrow.Author.Tests.{lt-ltb, ltb-true}
 use lib.Dec.{T, ltb, eqb, eqb-refl}
 use lib.Ieee.{Float, nan, inf, fin, Format, add, mul, sum, round, units, odd, lt, eq, level, isNan, up, down, low, prec, emax, size, nearest}
 use lib.Ieee.Fits.{down-pos}
@@ -14,7 +13,7 @@ use lib.Ieee.Bits.{is-true}
 use lib.Ieee.Positive.{through}
 use lib.Ieee.Scale.{finite}
 use Rattle.ieee.specs.Numbers.{null, absolute}
-use Rattle.ieee.specs.Root.{root, rootOf, wholeRoot}
+use Rattle.ieee.specs.Root.{root, rootOf}
 
 -- ---- signs: nan, or not negative
 

@@ -14,7 +14,7 @@ use lib.Ieee.Bits.{is-true, is-false}
 use lib.Ieee.Exact.{HasValue, round-exact}
 use lib.Ieee.Scale.{finite}
 use Rattle.ieee.specs.Numbers.{null, absolute, larger}
-use Rattle.ieee.specs.Values.{eq-zero, nothing, no-nan}
+use Rattle.ieee.specs.Special.{eq-zero, nothing, no-nan}
 
 -- ---- abs
 below-none : (a d : ℕ) → T (ltb a (0 * 1 * d)) → ⊥

@@ -10,12 +10,12 @@ use lib.Ieee.Compare.{differs-from-itself}
 use borrow.Author.Needs.{needs}
 use Rattle.ieee.specs.Root.{root}
 use Rattle.ieee.specs.Numbers.{null}
-use Rattle.ieee.specs.Values.{zero-bits, nan-root, no-nan, zero-root, minus-root, last-root, bits-pos}
+use Rattle.ieee.specs.Special.{zero-bits, nan-root, no-nan, zero-root, minus-root, last-root, bits-pos}
 use Rattle.numeric.proofs.sqrt.Statement.{statement}
 use Rattle.numeric.proofs.sqrt.Tie as tie
 use Rattle.numeric.proofs.sqrt.Reads as reads
 use Rattle.numeric.proofs.sqrt.Lts as lts
-use Rattle.numeric.proofs.root_bits.Reads as root-bits-reads
+use Rattle.numeric.proofs.root.root_bits.Reads as root-bits-reads
 
 -- what owning an `f64` tells: the format holds it
 held : (c : tie.Start) → T (fits binary64 (c .args .x))

@@ -1,117 +1,30 @@
--- The square root at a float that is given by its bit pattern, in either format: the special values, and a number above zero in units of the format's smallest value. Assumes nothing.
+-- A float by its bit pattern, in either format: the size of a number above zero in units of the format's smallest value, and the pattern of so many units. Assumes nothing.
 use mathlib.Core.Path.{_≡_, refl, sym, ap, _∙_, subst}
 use mathlib.Core.Logic.{_⊎_, inl, inr}
 use Prim.Native.Nat.{ℕ, zero, suc, _+_, _-_, _*_, _/_, _%_, _^_, _≤_, _<_}
-use native.Mathlib.Nat.{le-refl, le-trans, le-of-eq, le-of-lt, lt-irrefl, lt-of-lt-of-le, lt-of-le-of-lt, zero-lt-suc, zero-mul, zero-add, one-mul, mul-one, mul-comm, mul-pos, mul-right-comm, mul-lt-mul-of-pos-right, mul-div-cancel, le-mul-of-pos-right, div-eq-of-lt, mod-eq-of-lt, div-lt-iff-lt-mul, le-div-iff-mul-le}
+use native.Mathlib.Nat.{le-refl, le-trans, le-of-eq, le-of-lt, lt-irrefl, lt-of-lt-of-le, zero-lt-suc, zero-add, one-mul, mul-one, mul-comm, mul-pos, mul-lt-mul-of-pos-right, mul-div-cancel, le-mul-of-pos-right, div-eq-of-lt, mod-eq-of-lt, div-lt-iff-lt-mul, le-div-iff-mul-le}
 use native.Mathlib.Omega.{arith}
-use mathlib.Core.Bool.{Bool, true, false, not, _&&_, cond, true≢false}
-use lib.IntN.{ℤ, pos}
-use lib.Dec.{T, leb, ltb, eqb, lt→ltb, ltb→lt, eqb→eq, eqb-refl, not-T}
+use mathlib.Core.Bool.{Bool, true, false, not, cond, true≢false}
+use lib.Dec.{T, leb, ltb, eqb, lt→ltb, ltb→lt, eqb→eq, not-T}
 use lib.Arith.{lt→nleb}
 use lib.Pow.{pow-pos, pow-lt}
-use lib.Ieee.{Float, nan, inf, fin, Format, binary32, binary64, prec, emax, low, up, down, size, odd, units, eq, ne, fits, isNan, hid, ones, top, ofFields, ofBits, toBits}
-use lib.Ieee.Fits.{two, two-le-pos, up-pos, down-pos, odd-fits, and-l}
+use lib.Ieee.{Float, nan, inf, fin, Format, prec, emax, low, down, size, odd, units, fits, hid, ones, top, ofFields, ofBits, toBits}
+use lib.Ieee.Fits.{two, down-pos, odd-fits}
 use lib.Ieee.Exact.{HasValue, odd-sign, units-val}
 use lib.Ieee.Bits.{is-true, is-false, cond-no, ofBits-toBits}
-use Rattle.ieee.specs.Numbers.{null}
 use Rattle.ieee.specs.Root.{root, rootOf}
-use Rattle.ieee.specs.Squares.{size-kept}
+use Rattle.ieee.specs.Squares.{size-kept, root-value}
 
--- ---- the special values
-pub nan-root : (f : Format) (x : Float) → x ≡ nan → x ≡ root f x
-unfolding root
-nan-root f x e = e ∙ sym (ap (root f) e)
-
-pub no-nan : (x : Float) → ne x x ≡ false → T (not (isNan x))
-unfolding ne isNan
-no-nan nan e = absurd (true≢false e)
-no-nan (inf s) e = tt
-no-nan (fin s m e) h = tt
-
-pub nothing : (m : ℕ) (u d : ℕ) → 0 < u → suc m * u * 1 ≡ 0 * 1 * d → ⊥
-nothing m u d h e =
-    let p : 0 < suc m * u = mul-pos (zero-lt-suc m) h in
-    let z : 0 * 1 * d ≡ 0 = zero-mul d in
-    omega arith
-
-pub zero-root : (f : Format) (x : Float) → eq x null ≡ true → x ≡ root f x
-unfolding eq root
-zero-root f nan h = absurd (true≢false (sym h))
-zero-root f (inf s) h = absurd (true≢false (sym h))
-zero-root f (fin s zero e) h = refl
-zero-root f (fin s (suc m) e) h =
-    absurd (nothing m (up e) (down e) (up-pos e) (eqb→eq (suc m * up e * 1) (0 * 1 * down e) (and-l (eqb (suc m * up e * 1) (0 * 1 * down e)) _ (subst T (sym h) tt))))
-
--- negative, or a NaN
-abbrev Neg : Float → Type 0
-Neg nan = Unit {0}
-Neg (inf s) = s ≡ true
-Neg (fin s m e) = s ≡ true
-
-pub eq-zero : (s : Bool) (e : ℤ) → eq (fin s zero e) null ≡ true
-unfolding eq
-eq-zero s e = at (0 * up e * 1) (0 * 1 * down e) (ap (λ (x : ℕ). x * 1) (zero-mul (up e))) (zero-mul (down e)) s
-  where
-    at : (a b : ℕ) → a ≡ 0 → b ≡ 0 → (s : Bool) → lib.Ieee.level s a false b ≡ true
-    at a b p q true = ap (λ (x : ℕ). lib.Ieee.level true x false b) p ∙ ap (λ (x : ℕ). lib.Ieee.level true 0 false x) q
-    at a b p q false = ap (λ (x : ℕ). lib.Ieee.level false x false b) p ∙ ap (λ (x : ℕ). lib.Ieee.level false 0 false x) q
-
-neg-root : (f : Format) (x : Float) → Neg x → eq x null ≡ false → root f x ≡ nan
-unfolding root
-neg-root f nan n h = refl
-neg-root f (inf s) n h = ap (λ (b : Bool). cond b nan (inf false)) n
-neg-root f (fin s zero e) n h = absurd (true≢false (sym (eq-zero s e) ∙ h))
-neg-root f (fin s (suc m) e) n h = ap (λ (b : Bool). cond b nan (rootOf f (suc m * up e * 2 ^ low f * 2 ^ low f / down e))) n
-
-odd-neg : (d q k l : ℕ) → Neg (odd d true q k l)
-unfolding odd
-odd-neg d zero k l = refl
-odd-neg d (suc q) k l = refl
-
-pick-neg : (a b : Bool) (v : Float) → Neg v → Neg (cond a (cond b (inf true) nan) v)
-pick-neg true true v n = refl
-pick-neg true false v n = tt
-pick-neg false b v n = n
-
-fields-neg : (f : Format) (x t : ℕ) → Neg (ofFields f true x t)
-unfolding ofFields
-fields-neg f zero t = odd-neg (prec f) t 0 (low f)
-fields-neg f (suc x) t = pick-neg (eqb (suc x) (ones f)) (eqb t 0) (odd (prec f) true (hid f + t) x (low f)) (odd-neg (prec f) (hid f + t) x (low f))
-
-ofBits-is : (f : Format) (b : ℕ) → ofBits f b ≡ ofFields f (leb (top f) b) (b % top f / hid f) (b % hid f)
+-- ---- patterns without the sign's bit
+pub ofBits-is : (f : Format) (b : ℕ) → ofBits f b ≡ ofFields f (leb (top f) b) (b % top f / hid f) (b % hid f)
 unfolding ofBits
 ofBits-is f b = refl
 
-bits-neg : (f : Format) (b : ℕ) → leb (top f) b ≡ true → Neg (ofBits f b)
-bits-neg f b s = subst Neg (sym (ofBits-is f b ∙ ap (λ (t : Bool). ofFields f t (b % top f / hid f) (b % hid f)) s)) (fields-neg f (b % top f / hid f) (b % hid f))
-
--- a pattern with the sign's bit, of a value that is not zero
-pub minus-root : (f : Format) (x : Float) → T (fits f x) → leb (top f) (toBits f x) ≡ true → eq x null ≡ false → root f x ≡ nan
-minus-root f x h s z = neg-root f x (subst Neg (ofBits-toBits f x h) (bits-neg f (toBits f x) s)) z
-
--- ---- patterns without the sign's bit
-plain : (f : Format) (b : ℕ) → b < top f → ofBits f b ≡ ofFields f false (b / hid f) (b % hid f)
+pub plain : (f : Format) (b : ℕ) → b < top f → ofBits f b ≡ ofFields f false (b / hid f) (b % hid f)
 plain f b h =
     ofBits-is f b
     ∙ ap (λ (t : Bool). ofFields f t (b % top f / hid f) (b % hid f)) (is-false (leb (top f) b) (lt→nleb (top f) b h))
     ∙ ap (λ (x : ℕ). ofFields f false (x / hid f) (b % hid f)) (mod-eq-of-lt h)
-
-top-at : (f : Format) (t : ℕ) → ofFields f false (ones f) t ≡ cond (eqb t 0) (inf false) nan
-unfolding ofFields
-top-at binary32 t = refl
-top-at binary64 t = refl
-
-top-root : (f : Format) (b : Bool) → cond b (inf false) nan ≡ root f (cond b (inf false) nan)
-unfolding root
-top-root f true = refl
-top-root f false = refl
-
--- the exponent's field has all its bits set
-pub last-root : (f : Format) (x : Float) → T (fits f x) → toBits f x < top f → toBits f x / hid f ≡ ones f → x ≡ root f x
-last-root f x h s e =
-    let is : x ≡ cond (eqb (toBits f x % hid f) 0) (inf false) nan =
-    sym (ofBits-toBits f x h) ∙ plain f (toBits f x) s ∙ ap (λ (y : ℕ). ofFields f false y (toBits f x % hid f)) e ∙ top-at f (toBits f x % hid f) in
-    is ∙ top-root f (eqb (toBits f x % hid f) 0) ∙ ap (root f) (sym is)
 
 hid-pos : (f : Format) → 0 < hid f
 hid-pos f = pow-pos (prec f - 1)
@@ -146,23 +59,6 @@ normal-value f b l h =
   where
     mul-le : (h o : ℕ) → o * h ≤ suc o * h
     mul-le h o = native.Mathlib.Nat.mul-le-mul-right h (native.Mathlib.Nat.le-suc o)
-
--- ---- the root of a number above zero
-none : (a d u l : ℕ) → 0 < a → 0 < d → 0 * u * l ≡ a * d → ⊥
-none a d u l A D e =
-    let p : 0 < a * d = mul-pos A D in
-    let z : 0 * u * l ≡ 0 = ap (λ (x : ℕ). x * l) (zero-mul u) ∙ zero-mul l in
-    omega arith
-
-pub root-value : (f : Format) (x : Float) (a : ℕ) → HasValue x false a (2 ^ low f) → 0 < a → root f x ≡ rootOf f (a * 2 ^ low f)
-unfolding root
-root-value f nan a h p = absurd h
-root-value f (inf s) a h p = absurd h
-root-value f (fin true m e) a h p = absurd (true≢false (h .0))
-root-value f (fin false zero e) a h p = absurd (none a (down e) (up e) (2 ^ low f) p (down-pos e) (h .1))
-root-value f (fin false (suc m) e) a h p =
-    ap (rootOf f)
-    (ap (λ (z : ℕ). z * 2 ^ low f / down e) (h .1) ∙ ap (λ (z : ℕ). z / down e) (mul-right-comm a (down e) (2 ^ low f)) ∙ mul-div-cancel (a * 2 ^ low f) (down-pos e))
 
 -- ---- the pattern of q * 2 ^ k units
 toBits-value : (f : Format) (x : Float) (a : ℕ) → HasValue x false a (2 ^ low f) → toBits f x ≡ (size a - prec f) * hid f + a / 2 ^ (size a - prec f)
@@ -229,14 +125,3 @@ root-bits f b p h = root-value f (ofBits f b) (mag f b) (mag-value f b h) (mag-p
 -- The size of the pattern b's number is m * 2 ^ (prec + 1) * 4 ^ j squares of the format's smallest value. It is shut, since `omega` reads no number as large as 2 ^ low.
 unfoldable pub Sized : Format → ℕ → ℕ → ℕ → Type 0
 Sized f b m j = m * 2 ^ suc (prec f) * (2 ^ j * 2 ^ j) ≡ mag f b * 2 ^ low f
-
-pub zero-bits : (f : Format) → ofBits f 0 ≡ null
-unfolding ofBits
-zero-bits binary32 = refl
-zero-bits binary64 = refl
-
-pub bits-pos : (f : Format) (x : Float) → T (fits f x) → eq x null ≡ false → 0 < toBits f x
-bits-pos f x h z = elim (native.Mathlib.Nat.eq-zero-or-pos (toBits f x)) [
-  | inl e ↦ absurd (true≢false (sym (eq-zero false (pos 0)) ∙ ap (λ (y : Float). eq y null) (sym (sym (ofBits-toBits f x h) ∙ ap (ofBits f) e ∙ zero-bits f)) ∙ z))
-  | inr p ↦ p
-]
