@@ -6,12 +6,12 @@ use native.Mathlib.Nat.{le-refl, le-trans, le-of-eq, le-of-lt, lt-irrefl, lt-of-
 use native.Mathlib.Omega.{arith}
 use mathlib.Core.Bool.{Bool, true, false, not, cond, true≢false}
 use lib.Dec.{T, leb, ltb, eqb, lt→ltb, ltb→lt, eqb→eq, not-T}
-use lib.Arith.{lt→nleb}
+use lib.Arith.{lt→nleb, le→nltb}
 use lib.Pow.{pow-pos, pow-lt}
-use lib.Ieee.{Float, nan, inf, fin, Format, prec, emax, low, down, size, odd, units, fits, hid, ones, top, ofFields, ofBits, toBits}
+use lib.Ieee.{Float, nan, inf, fin, Format, binary32, binary64, prec, emax, low, down, size, odd, units, fits, hid, ones, top, ofFields, ofBits, toBits, nanBits}
 use lib.Ieee.Fits.{two, down-pos, odd-fits}
 use lib.Ieee.Exact.{HasValue, odd-sign, units-val}
-use lib.Ieee.Bits.{is-true, is-false, cond-no, ofBits-toBits}
+use lib.Ieee.Bits.{is-true, is-false, cond-no, ofBits-toBits, nanBits-above}
 use Rattle.ieee.specs.Root.{root, rootOf}
 use Rattle.ieee.specs.Squares.{size-kept, root-value}
 
@@ -125,3 +125,14 @@ root-bits f b p h = root-value f (ofBits f b) (mag f b) (mag-value f b h) (mag-p
 -- The size of the pattern b's number is m * 2 ^ (prec + 1) * 4 ^ j squares of the format's smallest value. It is shut, since `omega` reads no number as large as 2 ^ low.
 unfoldable pub Sized : Format → ℕ → ℕ → ℕ → Type 0
 Sized f b m j = m * 2 ^ suc (prec f) * (2 ^ j * 2 ^ j) ≡ mag f b * 2 ^ low f
+
+-- ---- patterns up to infinity's are no NaN's, the sign aside
+pub no-nan-within : (f : Format) (n : ℕ) → n % top f ≤ ones f * hid f → T (not (nanBits f n))
+no-nan-within f n h = subst (λ (t : Bool). T (not t)) (sym (nanBits-above f n)) (le→nltb (ones f * hid f) (n % top f) h)
+
+under : (f : Format) (n : ℕ) → n ≤ ones f * hid f → n % top f ≤ ones f * hid f
+under binary32 n h = omega arith
+under binary64 n h = omega arith
+
+pub no-nan-below : (f : Format) (n : ℕ) → n ≤ ones f * hid f → T (not (nanBits f n))
+no-nan-below f n h = no-nan-within f n (under f n h)

@@ -11,7 +11,7 @@ use lib.Ieee.{Format, binary32, binary64, prec, emax, low, hid, ones, top, ofBit
 use lib.Ieee.Bits.{nanBits-above}
 use Rattle.ieee.specs.Root.{root}
 use Rattle.ieee.specs.Squares.{IsRoot, IsNear, sq-one, sq-double, sq-lt-back, four-more, near-root, root-near, rootOf-digits}
-use Rattle.ieee.specs.Patterns.{mag, mag-small, mag-normal, mag-pos, Sized, root-bits, ofBits-units}
+use Rattle.ieee.specs.Patterns.{mag, mag-small, mag-normal, mag-pos, Sized, root-bits, ofBits-units, no-nan-below}
 
 pows : (m t j x l : ℕ) → t + (j + j) ≡ x + l → m * 2 ^ t * (2 ^ j * 2 ^ j) ≡ m * 2 ^ x * 2 ^ l
 pows m t j x l e =
@@ -189,13 +189,6 @@ pub digits-near : (f : Format) (m r : ℕ) → hid f ≤ m → IsRoot (m * 2 ^ s
 digits-near f m r l h = root-near (m * hid f) r (lt-of-lt-of-le (pow-pos (prec f)) (root-lo f m r l h)) (subst (λ (n : ℕ). IsRoot n r) (sym (four-hid f m)) h)
 
 -- ---- patterns that are no NaN's
-under : (f : Format) (n : ℕ) → n ≤ ones f * hid f → n % top f ≤ ones f * hid f
-under binary32 n h = omega arith
-under binary64 n h = omega arith
-
-pub no-nan-below : (f : Format) (n : ℕ) → n ≤ ones f * hid f → T (not (nanBits f n))
-no-nan-below f n h = subst (λ (t : Bool). T (not t)) (sym (nanBits-above f n)) (le→nltb (ones f * hid f) (n % top f) (under f n h))
-
 fits-under : (f : Format) (j q : ℕ) → j ≤ most f → q < 2 ^ prec f → (j + 1) * hid f + q ≤ ones f * hid f
 fits-under binary32 j q h k = omega arith
 fits-under binary64 j q h k = omega arith

@@ -15,7 +15,7 @@ use Rattle.numeric.proofs.sqrt.Statement.{statement}
 use Rattle.numeric.proofs.sqrt.Tie as tie
 use Rattle.numeric.proofs.sqrt.Reads as reads
 use Rattle.numeric.proofs.sqrt.Lts as lts
-use Rattle.numeric.proofs.root.root_bits.Reads as root-bits-reads
+use Rattle.numeric.proofs.square_root.root_bits.Reads as root-bits-reads
 
 -- what owning an `f64` tells: the format holds it
 held : (c : tie.Start) → T (fits binary64 (c .args .x))

@@ -1,11 +1,11 @@
--- `numeric::root::nearest` meets its contract: what the test passed, or the digits of the root. Assumes nothing.
+-- `numeric::square_root::nearest` meets its contract: what the test passed, or the digits of the root. Assumes nothing.
 use Prim.Native.Nat.{_<_, _-_, _^_}
 use native.Mathlib.Omega.{arith}
 use borrow.Author.Needs.{needs}
 use lib.Ieee.{binary64}
 use Rattle.numeric.proofs.Scaling.{root-hi, digits-near, at-54}
-use Rattle.numeric.proofs.root.nearest.Statement.{statement}
-use Rattle.numeric.proofs.root.nearest.Tie as tie
+use Rattle.numeric.proofs.square_root.nearest.Statement.{statement}
+use Rattle.numeric.proofs.square_root.nearest.Tie as tie
 
 abbrev start : tie.After-digits → tie.Start
 start c = c .before .before .before .before .before .before .before .before
