@@ -167,15 +167,17 @@ root-nearest f m e a o l h p =
 pow-le-back : (a l : ℕ) → 2 ^ a ≤ 2 ^ l → a ≤ l
 pow-le-back a l h = le-of-suc-le-suc (lt-of-not-le (λ (g : suc l ≤ a). lt-irrefl (2 ^ l) (lt-of-lt-of-le (pow-lt g) h)))
 
-in-units : (l m : ℕ) (e : ℤ) → 0 < m → down e ≤ 2 ^ l → (a : ℕ) × (m * up e * 2 ^ l ≡ a * down e) × (0 < a)
-in-units l m (pos k) p h = (m * 2 ^ k * 2 ^ l, sym (mul-one (m * 2 ^ k * 2 ^ l)), native.Mathlib.Nat.mul-pos (native.Mathlib.Nat.mul-pos p (pow-pos k)) (pow-pos l))
-in-units l m (negsuc k) p h = (
-  m * 2 ^ (l - suc k),
+pub in-power : (l m : ℕ) (e : ℤ) → down e ≤ 2 ^ l → (i : ℕ) × (m * up e * 2 ^ l ≡ m * 2 ^ i * down e)
+in-power l m (pos k) h = (k + l, mul-assoc m (2 ^ k) (2 ^ l) ∙ ap (λ (x : ℕ). m * x) (sym (pow-add 2 k l)) ∙ sym (mul-one (m * 2 ^ (k + l))))
+in-power l m (negsuc k) h = (
+  l - suc k,
   ap (λ (x : ℕ). x * 2 ^ l) (mul-one m)
       ∙ ap (λ (x : ℕ). m * x) (ap (λ (x : ℕ). 2 ^ x) (sym (lib.Ieee.Digits.back l (suc k) (pow-le-back (suc k) l h))) ∙ pow-add 2 (l - suc k) (suc k))
       ∙ sym (mul-assoc m (2 ^ (l - suc k)) (2 ^ suc k)),
-  native.Mathlib.Nat.mul-pos p (pow-pos (l - suc k)),
 )
+
+in-units : (l m : ℕ) (e : ℤ) → 0 < m → down e ≤ 2 ^ l → (a : ℕ) × (m * up e * 2 ^ l ≡ a * down e) × (0 < a)
+in-units l m e p h = let w = in-power l m e h in (m * 2 ^ w .0, w .1, native.Mathlib.Nat.mul-pos p (pow-pos (w .0)))
 
 -- The root of a number above zero. a is that number in units of the smallest value, so a * 2 ^ low is it in squares of that value.
 pub root-is-nearest : (f : Format) (m : ℕ) (e : ℤ) → T (fits f (fin false (suc m) e))

@@ -2,10 +2,12 @@ pub mod Root
 pub mod Numbers
 pub mod Squares
 pub mod Bracket
-pub mod Rows
+pub mod Neighbours
+pub mod Closest
 pub mod Patterns
 pub mod Special
 pub mod Finite
 pub mod Order
 pub mod Larger
 pub mod Sums
+pub mod Rows

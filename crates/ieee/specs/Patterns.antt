@@ -2,7 +2,7 @@
 use mathlib.Core.Path.{_≡_, refl, sym, ap, _∙_, subst}
 use mathlib.Core.Logic.{_⊎_, inl, inr}
 use Prim.Native.Nat.{ℕ, zero, suc, _+_, _-_, _*_, _/_, _%_, _^_, _≤_, _<_}
-use native.Mathlib.Nat.{le-refl, le-trans, le-of-eq, le-of-lt, lt-irrefl, lt-of-lt-of-le, zero-lt-suc, zero-add, one-mul, mul-one, mul-comm, mul-pos, mul-lt-mul-of-pos-right, mul-div-cancel, le-mul-of-pos-right, div-eq-of-lt, mod-eq-of-lt, div-lt-iff-lt-mul, le-div-iff-mul-le}
+use native.Mathlib.Nat.{le-refl, le-trans, le-of-eq, le-of-lt, lt-irrefl, lt-of-lt-of-le, lt-of-le-of-lt, zero-lt-suc, zero-add, one-mul, mul-one, mul-comm, mul-pos, mul-lt-mul-of-pos-right, mul-div-cancel, le-mul-of-pos-right, div-eq-of-lt, mod-eq-of-lt, div-lt-iff-lt-mul, le-div-iff-mul-le}
 use native.Mathlib.Omega.{arith}
 use mathlib.Core.Bool.{Bool, true, false, not, cond, true≢false}
 use lib.Dec.{T, leb, ltb, eqb, lt→ltb, ltb→lt, eqb→eq, not-T}
@@ -70,12 +70,16 @@ toBits-value f (fin false m e) a h =
     ap (λ (n : ℕ). 0 + (size n - prec f) * hid f + n / 2 ^ (size n - prec f)) (ap (λ (z : ℕ). z / down e) (h .1) ∙ mul-div-cancel a (down-pos e))
     ∙ ap (λ (z : ℕ). z + a / 2 ^ (size a - prec f)) (zero-add ((size a - prec f) * hid f))
 
-units-fits : (f : Format) (q k : ℕ) → q < 2 ^ prec f → q * 2 ^ k < 2 ^ (low f + suc (emax f)) → T (fits f (units f false q k))
+-- two floats of the format with one value are one
+pub same-value : (f : Format) (x y : Float) (a : ℕ) → T (fits f x) → T (fits f y) → HasValue x false a (2 ^ low f) → HasValue y false a (2 ^ low f) → x ≡ y
+same-value f x y a X Y p q = sym (ofBits-toBits f x X) ∙ ap (ofBits f) (toBits-value f x a p ∙ sym (toBits-value f y a q)) ∙ ofBits-toBits f y Y
+
+pub units-fits : (f : Format) (q k : ℕ) → q ≤ 2 ^ prec f → q * 2 ^ k < 2 ^ (low f + suc (emax f)) → T (fits f (units f false q k))
 unfolding units
 units-fits f q k a c = go (ltb (q * 2 ^ k) (2 ^ (low f + suc (emax f)))) (lt→ltb (q * 2 ^ k) (2 ^ (low f + suc (emax f))) c)
   where
     go : (b : Bool) → T b → T (fits f (cond b (odd (suc (prec f)) false q k (low f)) (inf false)))
-    go true t = odd-fits f (suc (prec f)) false q k (lt-of-lt-of-le a (le-of-lt (pow-lt (le-refl (suc (prec f)))))) (le-of-lt a) c
+    go true t = odd-fits f (suc (prec f)) false q k (lt-of-le-of-lt a (pow-lt (le-refl (suc (prec f))))) a c
     go false t = absurd t
 
 pub ofBits-units : (f : Format) (q k : ℕ) → 2 ^ (prec f - 1) ≤ q → q < 2 ^ prec f → q * 2 ^ k < 2 ^ (low f + suc (emax f)) → ofBits f (k * hid f + q) ≡ units f false q k
@@ -86,7 +90,7 @@ ofBits-units f q k a b c =
     toBits-value f u (q * 2 ^ k) (units-val f false q k c)
     ∙ ap (λ (z : ℕ). z * hid f + q * 2 ^ k / 2 ^ z) (size-kept (prec f) q k (q * 2 ^ k) (two f) a b (le-refl (q * 2 ^ k)) (mul-lt-mul-of-pos-right more (pow-pos k)))
     ∙ ap (λ (z : ℕ). k * hid f + z) (mul-div-cancel q (pow-pos k)) in
-    ap (ofBits f) (sym is) ∙ ofBits-toBits f u (units-fits f q k b c)
+    ap (ofBits f) (sym is) ∙ ofBits-toBits f u (units-fits f q k (le-of-lt b) c)
 
 -- ---- the size of a number above zero, in units of the format's smallest value, by its pattern
 unfoldable pub mag : Format → ℕ → ℕ

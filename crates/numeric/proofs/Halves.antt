@@ -1,9 +1,9 @@
 -- The square of a number in two halves, and what `is_nearest` reads off them: H is 2 ^ 26, and the square is hi * 2 ^ 52 + lo. Assumes nothing.
-use mathlib.Core.Path.{_≡_, refl, sym, ap, _∙_, subst}
+use mathlib.Core.Path.{_≡_, _∙_, subst}
 use Prim.Native.Nat.{ℕ, _+_, _-_, _*_, _/_, _%_, _^_, _≤_, _<_}
-use native.Mathlib.Nat.{le-of-lt, le-trans, mul-le-mul, mul-comm, mul-right-comm, mul-mul-mul-comm, mul-add, add-mul}
+use native.Mathlib.Nat.{mul-le-mul, mul-comm, mul-right-comm, mul-mul-mul-comm, mul-add, add-mul}
 use native.Mathlib.Omega.{arith}
-use Rattle.ieee.specs.Squares.{IsRoot, IsNear, root-near}
+use Rattle.ieee.specs.Squares.{IsNear}
 
 abbrev H : ℕ
 H = 67108864

@@ -1,14 +1,12 @@
 -- The numbers that `parts` and `root_bits` make of a pattern, over the format: a bound between numerals is shown at each of the two. Assumes nothing.
 use mathlib.Core.Path.{_≡_, refl, sym, ap, _∙_, subst}
-use mathlib.Core.Bool.{Bool, not}
+use mathlib.Core.Bool.{not}
 use Prim.Native.Nat.{ℕ, zero, suc, _+_, _-_, _*_, _/_, _%_, _^_, _≤_, _<_}
-use native.Mathlib.Nat.{le-trans, le-of-eq, lt-irrefl, lt-of-le-of-lt, lt-of-lt-of-le, mul-assoc, mul-one, one-mul, mul-right-comm, mul-le-mul-right, mul-lt-mul-of-pos-right, pow-succ', zero-lt-suc}
+use native.Mathlib.Nat.{le-trans, le-of-eq, lt-irrefl, lt-of-le-of-lt, lt-of-lt-of-le, mul-assoc, mul-one, mul-right-comm, mul-le-mul-right, mul-lt-mul-of-pos-right, pow-succ', zero-lt-suc}
 use native.Mathlib.Omega.{arith}
-use lib.Dec.{T, lit<, lit≤}
-use lib.Arith.{le→nltb}
+use lib.Dec.{T, lit≤}
 use lib.Pow.{pow-add, pow-pos, pow-mono, shl-lt}
-use lib.Ieee.{Format, binary32, binary64, prec, emax, low, hid, ones, top, ofBits, nanBits}
-use lib.Ieee.Bits.{nanBits-above}
+use lib.Ieee.{Format, binary32, binary64, prec, emax, low, hid, ones, ofBits, nanBits}
 use Rattle.ieee.specs.Root.{root}
 use Rattle.ieee.specs.Squares.{IsRoot, IsNear, sq-one, sq-double, sq-lt-back, four-more, near-root, root-near, rootOf-digits}
 use Rattle.ieee.specs.Patterns.{mag, mag-small, mag-normal, mag-pos, Sized, root-bits, ofBits-units, no-nan-below}

@@ -1,4 +1,4 @@
-// The root of a number above zero, from its bit pattern: a guess by Newton's steps, which nothing depends on, and an exact test of it.
+// The root of a number above zero, from its bit pattern: a guess by Newton's steps, which no proof relies on, and an exact test of it.
 ghost use mathlib.Core.Path.{_≡_};
 ghost use mathlib.Core.Bool.{true, false, not};
 ghost use Prim.Native.Nat.{_+_, _*_, _/_, _^_, _≤_, _<_};
@@ -14,7 +14,7 @@ const HID: u64 = 4503599627370496;
 // 2^26, which parts a number of 53 digits into halves
 const HALF: u64 = 67108864;
 
-// The pattern of the inverse root of 1 is near this less half the pattern of 1.
+// This less half of a number's pattern is near the pattern of its inverse root.
 const INVERSE: u64 = 6910469410427058089;
 
 struct Scaled {
@@ -47,7 +47,7 @@ fn parts(b: u64) -> Scaled
 // The pattern of m / 2^52, cut to 53 digits.
 fn pattern(m: u64) -> u64
     requires { ⌜ (2 ^ 52 ≤ m) × (m < 2 ^ 54) ⌝ }
-    ensures { λ r. ⌜ (r < 1025 * 2 ^ 52) ⌝ }
+    ensures { λ r. ⌜ r < 1025 * 2 ^ 52 ⌝ }
 {
     if m < 2 * HID {
         m + 1022 * HID

@@ -6,8 +6,6 @@ use native.Mathlib.Omega.{arith}
 use Rattle.numeric.proofs.Turns.{Taken, bound, turn-with, turn-without, last}
 use Rattle.numeric.proofs.square_root.digits.Statement.{statement}
 use Rattle.numeric.proofs.square_root.digits.Tie as tie
-use Rattle.numeric.proofs.square_root.digits.Reads as reads
-use Rattle.numeric.proofs.square_root.digits.Lts as lts
 
 abbrev Inv-loop : tie.InvT-loop
 Inv-loop m turns q₀ rem₀ rest₀ i₀ q rem rest i = (i ≤ turns) × Taken m q rem rest i

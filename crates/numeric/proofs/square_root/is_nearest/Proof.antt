@@ -1,7 +1,6 @@
 -- `numeric::square_root::is_nearest` meets its contract: the laws of `proofs/Halves.antt`. Assumes nothing.
-use mathlib.Core.Path.{_≡_, sym, _∙_}
+use mathlib.Core.Path.{sym}
 use mathlib.Core.Bool.{true≢false}
-use native.Mathlib.Omega.{arith}
 use borrow.Author.Needs.{needs}
 use borrow.Author.Tests.{ltb-true, ltb-false}
 use Rattle.numeric.proofs.Halves.{too-small, is-near, too-large}

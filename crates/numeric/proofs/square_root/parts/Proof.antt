@@ -5,8 +5,6 @@ use borrow.Author.Needs.{needs}
 use Rattle.numeric.proofs.Scaling.{sized-small, sized-odd, sized-even}
 use Rattle.numeric.proofs.square_root.parts.Statement.{statement}
 use Rattle.numeric.proofs.square_root.parts.Tie as tie
-use Rattle.numeric.proofs.square_root.parts.Reads as reads
-use Rattle.numeric.proofs.square_root.parts.Lts as lts
 
 returns : tie.Need-returns
 returns c = (omega arith, omega arith, sized-small binary64 (c .before .args .b) (c .if1 .taken))

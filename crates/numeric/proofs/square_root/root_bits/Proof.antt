@@ -1,5 +1,5 @@
 -- `numeric::square_root::root_bits` meets its contract (`proofs/Scaling.antt`). The loop keeps the number's size; the measure is j. Assumes nothing.
-use Prim.Native.Nat.{ℕ, _*_, _^_, _≤_, _<_}
+use Prim.Native.Nat.{_^_, _≤_, _<_}
 use native.Mathlib.Omega.{arith}
 use lib.Ieee.{binary64}
 use Rattle.ieee.specs.Patterns.{Sized}
