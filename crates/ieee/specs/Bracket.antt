@@ -1,21 +1,20 @@
 -- What `root` is, said by whole-number squares alone: the nearer of two neighbouring floats, and never a tie. Assumes nothing.
-use mathlib.Core.Path.{_≡_, refl, sym, ap, _∙_, subst}
+use mathlib.Core.Path.{_≡_, refl, sym, ap, _∙_}
 use mathlib.Core.Logic.{_⊎_, inl, inr}
 use Prim.Native.Nat.{ℕ, zero, suc, _+_, _-_, _*_, _/_, _%_, _^_, _≤_, _<_, compare, Ordering, Ordering·lt, Ordering·eq, Ordering·gt}
-use native.Mathlib.Nat.{le-refl, le-trans, le-of-eq, lt-irrefl, lt-of-lt-of-le, lt-of-le-of-lt, le-of-suc-le-suc, lt-of-not-le, not-le-of-lt, mul-one, one-mul, mul-comm, mul-assoc, mul-left-comm, mul-right-comm, mul-mul-mul-comm, mul-le-mul, mul-le-mul-right, eq-of-mul-eq-mul-right, div-mul-le-self, lt-div-mul-add, le-div-iff-mul-le, pow-succ', pow-suc, two-pow-succ, zero-lt-suc}
+use native.Mathlib.Nat.{le-trans, le-of-eq, lt-irrefl, lt-of-lt-of-le, lt-of-le-of-lt, le-of-suc-le-suc, lt-of-not-le, mul-one, one-mul, mul-comm, mul-assoc, mul-left-comm, mul-right-comm, mul-mul-mul-comm, mul-le-mul, mul-le-mul-right, div-mul-le-self, lt-div-mul-add, le-div-iff-mul-le, pow-succ', two-pow-succ, zero-lt-suc}
 use native.Mathlib.Omega.{arith}
-use mathlib.Core.Bool.{Bool, true, false, not, _&&_, true≢false}
+use mathlib.Core.Bool.{false, not, _&&_}
 use lib.IntN.{ℤ, pos, negsuc}
-use lib.Dec.{T, leb, ltb, eqb, isLe, isEq, leb→le, nleb→lt, eqb→eq, ltb→lt, lit≤, lit<}
+use lib.Dec.{T, leb, ltb, eqb, isLe, isEq, leb→le, nleb→lt, eqb→eq, ltb→lt, lit≤}
 use lib.Arith.{lt-of-le-ne}
 use lib.Pow.{pow-add, pow-pos, pow-mono, pow-lt}
-use lib.Ieee.{Float, nan, inf, fin, Format, binary32, binary64, prec, emax, low, up, down, size, nearest, units, fits}
-use lib.Ieee.Digits.{size-lt, size-le, size-reaches}
-use lib.Ieee.Fits.{two, kept-lt, and-l, and-r, down-pos}
+use lib.Ieee.{Float, fin, Format, binary32, binary64, prec, emax, low, up, down, size, nearest, units, fits}
+use lib.Ieee.Digits.{size-lt, size-reaches}
+use lib.Ieee.Fits.{two, kept-lt, and-l, and-r}
 use lib.Ieee.Exact.{HasValue}
 use Rattle.ieee.specs.Root.{root, rootOf, wholeRoot}
-use Rattle.ieee.specs.Squares.{IsRoot, wholeRoot-is, sq-one, sq-double, sq-lt-back, nearer, rootOf-at, compare-lt, compare-gt}
-use Rattle.ieee.specs.Values.{root-value}
+use Rattle.ieee.specs.Squares.{wholeRoot-is, sq-one, sq-double, sq-lt-back, nearer, rootOf-at, compare-lt, compare-gt, root-value}
 
 -- r is the float nearest to the root of n, a number of squares of the format's smallest value. q has all the digits that the format keeps, so the floats q * 2 ^ k and (q + 1) * 2 ^ k
 -- are neighbours. The root of n lies from the first on and below the second, and the square of what lies midway, taken four times, tells which is nearer. It is never n * 4.
@@ -168,15 +167,17 @@ root-nearest f m e a o l h p =
 pow-le-back : (a l : ℕ) → 2 ^ a ≤ 2 ^ l → a ≤ l
 pow-le-back a l h = le-of-suc-le-suc (lt-of-not-le (λ (g : suc l ≤ a). lt-irrefl (2 ^ l) (lt-of-lt-of-le (pow-lt g) h)))
 
-in-units : (l m : ℕ) (e : ℤ) → 0 < m → down e ≤ 2 ^ l → (a : ℕ) × (m * up e * 2 ^ l ≡ a * down e) × (0 < a)
-in-units l m (pos k) p h = (m * 2 ^ k * 2 ^ l, sym (mul-one (m * 2 ^ k * 2 ^ l)), native.Mathlib.Nat.mul-pos (native.Mathlib.Nat.mul-pos p (pow-pos k)) (pow-pos l))
-in-units l m (negsuc k) p h = (
-  m * 2 ^ (l - suc k),
+pub in-power : (l m : ℕ) (e : ℤ) → down e ≤ 2 ^ l → (i : ℕ) × (m * up e * 2 ^ l ≡ m * 2 ^ i * down e)
+in-power l m (pos k) h = (k + l, mul-assoc m (2 ^ k) (2 ^ l) ∙ ap (λ (x : ℕ). m * x) (sym (pow-add 2 k l)) ∙ sym (mul-one (m * 2 ^ (k + l))))
+in-power l m (negsuc k) h = (
+  l - suc k,
   ap (λ (x : ℕ). x * 2 ^ l) (mul-one m)
       ∙ ap (λ (x : ℕ). m * x) (ap (λ (x : ℕ). 2 ^ x) (sym (lib.Ieee.Digits.back l (suc k) (pow-le-back (suc k) l h))) ∙ pow-add 2 (l - suc k) (suc k))
       ∙ sym (mul-assoc m (2 ^ (l - suc k)) (2 ^ suc k)),
-  native.Mathlib.Nat.mul-pos p (pow-pos (l - suc k)),
 )
+
+in-units : (l m : ℕ) (e : ℤ) → 0 < m → down e ≤ 2 ^ l → (a : ℕ) × (m * up e * 2 ^ l ≡ a * down e) × (0 < a)
+in-units l m e p h = let w = in-power l m e h in (m * 2 ^ w .0, w .1, native.Mathlib.Nat.mul-pos p (pow-pos (w .0)))
 
 -- The root of a number above zero. a is that number in units of the smallest value, so a * 2 ^ low is it in squares of that value.
 pub root-is-nearest : (f : Format) (m : ℕ) (e : ℤ) → T (fits f (fin false (suc m) e))

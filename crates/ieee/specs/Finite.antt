@@ -1,17 +1,16 @@
 -- What a finite result says of its operands, and the test that tells a finite number: it minus itself equals 0. Assumes nothing.
-use Prim.Native.Nat.{ℕ, zero, suc, _+_, _*_, _-_, _<_}
-use mathlib.Core.Path.{_≡_, refl, sym, ap, _∙_}
+use Prim.Native.Nat.{ℕ, _*_, _-_, _<_}
+use mathlib.Core.Path.{_≡_, refl, sym, _∙_}
 use mathlib.Core.Bool.{Bool, true, false, not, cond, Bool·beq}
 use native.Mathlib.Omega.{arith}
 use native.Mathlib.Nat.{sub-self, zero-mul, mul-pos}
 use borrow.Author.Tests.{le-ltb}
-use lib.Dec.{T, eqb, ltb}
-use lib.IntN.{ℤ, pos}
+use lib.Dec.{T, eqb}
 use lib.Ieee.{Float, nan, inf, fin, Format, binary32, binary64, add, sub, mul, neg, sum, round, eq, unlike, up, down}
 use lib.Ieee.Fits.{down-pos}
 use lib.Ieee.Scale.{finite, round-same}
 use Rattle.ieee.specs.Numbers.{null, absolute}
-use Rattle.ieee.specs.Root.{root, rootOf}
+use Rattle.ieee.specs.Root.{root}
 
 -- ---- finite operands
 pub add-finite : (f : Format) (x y : Float) → T (finite (add f x y)) → T (finite x) × T (finite y)

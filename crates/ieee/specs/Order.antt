@@ -1,12 +1,11 @@
 -- The order of the floats that are not negative, and what keeps a float from being negative. Assumes nothing.
 use Prim.Native.Nat.{ℕ, zero, suc, _+_, _*_, _^_, _/_, _%_, _-_, _<_, _≤_, compare}
-use mathlib.Core.Path.{_≡_, refl, sym, ap, _∙_, subst}
+use mathlib.Core.Path.{_≡_, refl, sym, ap, subst}
 use mathlib.Core.Bool.{Bool, true, false, not, cond, _&&_}
 use mathlib.Core.Logic.{_⊎_, inl, inr}
 use native.Mathlib.Omega.{arith}
 use native.Mathlib.Decide.{decLt}
-use borrow.Author.Tests.{lt-ltb, le-ltb, ltb-true, ltb-false}
-use lib.IntN.{ℤ, pos}
+use borrow.Author.Tests.{lt-ltb, ltb-true}
 use lib.Dec.{T, ltb, eqb, eqb-refl}
 use lib.Ieee.{Float, nan, inf, fin, Format, add, mul, sum, round, units, odd, lt, eq, level, isNan, up, down, low, prec, emax, size, nearest}
 use lib.Ieee.Fits.{down-pos}
@@ -14,7 +13,7 @@ use lib.Ieee.Bits.{is-true}
 use lib.Ieee.Positive.{through}
 use lib.Ieee.Scale.{finite}
 use Rattle.ieee.specs.Numbers.{null, absolute}
-use Rattle.ieee.specs.Root.{root, rootOf, wholeRoot}
+use Rattle.ieee.specs.Root.{root, rootOf}
 
 -- ---- signs: nan, or not negative
 
@@ -66,6 +65,24 @@ square-upward f (inf true) = tt
 square-upward f (fin false m e) = round-upward f (m * up e * (m * up e)) (down e * down e)
 square-upward f (fin true m e) = round-upward f (m * up e * (m * up e)) (down e * down e)
 
+pub mul-upward : (f : Format) (x y : Float) → T (upward x) → T (upward y) → T (upward (mul f x y))
+unfolding mul
+mul-upward f nan y p q = tt
+mul-upward f (inf s) nan p q = tt
+mul-upward f (inf false) (inf false) p q = tt
+mul-upward f (inf false) (inf true) p q = absurd q
+mul-upward f (inf true) (inf t) p q = absurd p
+mul-upward f (inf false) (fin false n d) p q = cond-upward (eqb n 0) nan (inf false) tt tt
+mul-upward f (inf false) (fin true n d) p q = absurd q
+mul-upward f (inf true) (fin t n d) p q = absurd p
+mul-upward f (fin s m e) nan p q = tt
+mul-upward f (fin false m e) (inf false) p q = cond-upward (eqb m 0) nan (inf false) tt tt
+mul-upward f (fin false m e) (inf true) p q = absurd q
+mul-upward f (fin true m e) (inf t) p q = absurd p
+mul-upward f (fin false m e) (fin false n d) p q = round-upward f (m * up e * (n * up d)) (down e * down d)
+mul-upward f (fin false m e) (fin true n d) p q = absurd q
+mul-upward f (fin true m e) (fin t n d) p q = absurd p
+
 pub root-upward : (f : Format) (x : Float) → T (upward x) → T (upward (root f x))
 unfolding root rootOf
 root-upward f nan u = tt
@@ -91,6 +108,18 @@ below-infinity nan u h = tf (sym h)
 below-infinity (inf true) u h = absurd u
 below-infinity (inf false) u h = tf (sym h)
 below-infinity (fin s m e) u h = tt
+
+pub finite-below : (x : Float) → T (finite x) → lt x (inf false) ≡ true
+unfolding lt
+finite-below nan h = absurd h
+finite-below (inf s) h = absurd h
+finite-below (fin s m e) h = refl
+
+pub finite-number : (x : Float) → T (finite x) → isNan x ≡ false
+unfolding isNan
+finite-number nan h = absurd h
+finite-number (inf s) h = absurd h
+finite-number (fin s m e) h = refl
 
 pub above-zero : (x : Float) → lt null x ≡ true → T (upward x)
 unfolding lt

@@ -1,21 +1,26 @@
 -- What `wholeRoot` finds, and what `rootOf` is by whole-number squares alone. Assumes nothing.
 use mathlib.Core.Path.{_≡_, refl, sym, ap, _∙_, subst}
-use mathlib.Core.Logic.{_⊎_, inl, inr}
 use Prim.Native.Nat.{ℕ, zero, suc, _+_, _-_, _*_, _/_, _%_, _^_, _≤_, _<_, compare, Ordering, Ordering·lt, Ordering·eq, Ordering·gt}
-use native.Mathlib.Nat.{le-trans, le-of-eq, lt-irrefl, lt-of-lt-of-le, lt-of-le-of-lt, lt-of-not-le, not-le-of-lt, le-antisymm, le-of-suc-le-suc, mul-one, one-mul, mul-comm, mul-assoc, mul-left-comm, mul-mul-mul-comm, mul-add, add-mul, mul-le-mul, mul-le-mul-right, mul-lt-mul-of-pos-right, div-eq-of-lt-le, two-pow-succ, zero-add}
+use native.Mathlib.Nat.{le-trans, le-of-eq, lt-irrefl, lt-of-lt-of-le, lt-of-le-of-lt, lt-of-not-le, not-le-of-lt, le-antisymm, mul-one, one-mul, mul-comm, mul-assoc, mul-mul-mul-comm, mul-right-comm, mul-div-cancel, mul-pos, zero-mul, mul-add, add-mul, mul-le-mul, mul-le-mul-right, mul-lt-mul-of-pos-right, div-eq-of-lt-le, two-pow-succ}
+use native.Mathlib.Numerals.{add-one}
 use native.Mathlib.Omega.{arith}
-use mathlib.Core.Bool.{Bool, true, false, not, cond}
-use lib.Dec.{T, leb, eqb, isLe, isEq, leb→le, nleb→lt, eqb→eq, eqb-refl}
+use mathlib.Core.Bool.{Bool, true, false, not, cond, true≢false}
+use lib.Dec.{T, leb, eqb, isLe, isEq, leb→le, nleb→lt, eqb→eq}
 use lib.Arith.{lt-of-le-ne}
-use lib.Pow.{pow-add, pow-pos, pow-mono, pow-lt}
-use lib.Ieee.{Float, Format, prec, size, nearest, units}
-use lib.Ieee.Digits.{size-lt, size-le, size-reaches}
-use lib.Ieee.Fits.{two}
-use Rattle.ieee.specs.Root.{grow, rootBelow, wholeRoot, rootOf}
+use lib.Pow.{pow-add, pow-pos, pow-mono}
+use lib.Ieee.{Float, nan, inf, fin, Format, prec, low, up, down, size, nearest, units}
+use lib.Ieee.Exact.{HasValue}
+use lib.Ieee.Digits.{size-lt, size-le}
+use lib.Ieee.Fits.{two, down-pos}
+use Rattle.ieee.specs.Root.{grow, rootBelow, wholeRoot, rootOf, root}
 
 -- r is the whole part of n's root
 abbrev pub IsRoot : ℕ → ℕ → Type 0
 IsRoot n r = (r * r ≤ n) × (n < (r + 1) * (r + 1))
+
+-- q is the whole number nearest to n's root: the root lies between q - 1/2 and q + 1/2
+abbrev pub IsNear : ℕ → ℕ → Type 0
+IsNear n q = (q * q < n + q) × (n ≤ q * q + q)
 
 -- ---- squares
 pub sq-one : (r : ℕ) → (r + 1) * (r + 1) ≡ r * r + 2 * r + 1
@@ -26,6 +31,40 @@ sq-double r = mul-mul-mul-comm 2 r 2 r
 
 pub sq-lt-back : (a b : ℕ) → a * a < b * b → a < b
 sq-lt-back a b h = lt-of-not-le (λ (g : b ≤ a). not-le-of-lt h (mul-le-mul g g))
+
+-- ---- the whole number nearest to the root, and the whole part of the root with one digit more
+pub near-root : (n q : ℕ) → 0 < q → IsNear n q → (r : ℕ) × IsRoot (4 * n) r × ((r + 1) / 2 ≡ q)
+near-root n zero p h = absurd (omega arith)
+near-root n (suc k) p h = go (leb (suc k * suc k) n) (leb→le (suc k * suc k) n) (nleb→lt (suc k * suc k) n)
+  where
+    squared : suc k * suc k ≡ k * k + 2 * k + 1
+    squared = ap (λ (x : ℕ). x * x) (sym (add-one k)) ∙ sq-one k
+
+    go : (b : Bool) → (T b → suc k * suc k ≤ n) → (T (not b) → n < suc k * suc k) → (r : ℕ) × IsRoot (4 * n) r × ((r + 1) / 2 ≡ suc k)
+    go true y x =
+        let g : suc k * suc k ≤ n = y tt in
+        (2 * suc k, (omega (arith, sq-double (suc k)), omega (arith, sq-one (2 * suc k), sq-double (suc k))), omega arith)
+    go false y x =
+        let g : n < suc k * suc k = x tt in
+        (2 * k + 1, (omega (arith, sq-one (2 * k), sq-double k, squared), omega (arith, sq-one (2 * k + 1), sq-one (2 * k), sq-double k, squared)), omega arith)
+
+pub root-near : (n r : ℕ) → 0 < r → IsRoot (4 * n) r → IsNear n ((r + 1) / 2)
+root-near n r p h = go (r % 2) refl
+  where
+    k : ℕ
+    k = r / 2
+
+    go : (t : ℕ) → r % 2 ≡ t → IsNear n ((r + 1) / 2)
+    go zero z =
+        let e : r ≡ 2 * k = omega arith in
+        let g : IsRoot (4 * n) (2 * k) = subst (λ (x : ℕ). IsRoot (4 * n) x) e h in
+        let q : k ≡ (r + 1) / 2 = omega arith in
+        subst (λ (x : ℕ). IsNear n x) q (omega (arith, sq-double k), omega (arith, sq-one (2 * k), sq-double k))
+    go (suc t) z =
+        let e : r ≡ 2 * k + 1 = omega arith in
+        let g : IsRoot (4 * n) (2 * k + 1) = subst (λ (x : ℕ). IsRoot (4 * n) x) e h in
+        let q : k + 1 ≡ (r + 1) / 2 = omega arith in
+        subst (λ (x : ℕ). IsNear n x) q (omega (arith, sq-one k, sq-one (2 * k), sq-double k), omega (arith, sq-one k, sq-one (2 * k + 1), sq-one (2 * k), sq-double k))
 
 -- ---- `wholeRoot`
 step : (n r : ℕ) → IsRoot (n / 4) r → IsRoot n (grow n (2 * r))
@@ -173,3 +212,20 @@ module _ (f : Format) (n d j r : ℕ) (e : n ≡ d * (2 ^ j * 2 ^ j)) (h : IsRoo
       go : (t : ℕ) → r % 2 ≡ t → nearest (r / 2) (compare (4 * n) ((2 * (r / 2) + 1) * 2 ^ (j + 1) * ((2 * (r / 2) + 1) * 2 ^ (j + 1)))) ≡ (r + 1) / 2
       go zero z = even z
       go (suc t) z = odd (omega arith)
+
+-- ---- `root` of a number above zero, by its size in units of the smallest value
+none : (a d u l : ℕ) → 0 < a → 0 < d → 0 * u * l ≡ a * d → ⊥
+none a d u l A D e =
+    let p : 0 < a * d = mul-pos A D in
+    let z : 0 * u * l ≡ 0 = ap (λ (x : ℕ). x * l) (zero-mul u) ∙ zero-mul l in
+    omega arith
+
+pub root-value : (f : Format) (x : Float) (a : ℕ) → HasValue x false a (2 ^ low f) → 0 < a → root f x ≡ rootOf f (a * 2 ^ low f)
+unfolding root
+root-value f nan a h p = absurd h
+root-value f (inf s) a h p = absurd h
+root-value f (fin true m e) a h p = absurd (true≢false (h .0))
+root-value f (fin false zero e) a h p = absurd (none a (down e) (up e) (2 ^ low f) p (down-pos e) (h .1))
+root-value f (fin false (suc m) e) a h p =
+    ap (rootOf f)
+    (ap (λ (z : ℕ). z * 2 ^ low f / down e) (h .1) ∙ ap (λ (z : ℕ). z / down e) (mul-right-comm a (down e) (2 ^ low f)) ∙ mul-div-cancel (a * 2 ^ low f) (down-pos e))

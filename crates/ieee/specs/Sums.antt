@@ -1,5 +1,4 @@
 -- Sums of squares from place 0 on, one rounding for each operation, and the norm, their root. A finite one has finite entries, and none is negative. Assumes nothing but the laws of `Finite` and `Order`.
-use mathlib.Core.Path.{_≡_}
 use mathlib.Core.List.{List, [], _∷_}
 use lib.Dec.{T}
 use lib.Ieee.{Float, Format, add, mul}

@@ -1,3 +1,4 @@
+pub mod Halves
 pub mod Scaling
 pub mod Signs
 pub mod Turns

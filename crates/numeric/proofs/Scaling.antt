@@ -1,17 +1,15 @@
 -- The numbers that `parts` and `root_bits` make of a pattern, over the format: a bound between numerals is shown at each of the two. Assumes nothing.
 use mathlib.Core.Path.{_≡_, refl, sym, ap, _∙_, subst}
-use mathlib.Core.Bool.{Bool, not}
+use mathlib.Core.Bool.{not}
 use Prim.Native.Nat.{ℕ, zero, suc, _+_, _-_, _*_, _/_, _%_, _^_, _≤_, _<_}
-use native.Mathlib.Nat.{le-trans, le-of-eq, lt-irrefl, lt-of-le-of-lt, lt-of-lt-of-le, mul-assoc, mul-one, one-mul, mul-right-comm, mul-le-mul-right, mul-lt-mul-of-pos-right, pow-succ', zero-lt-suc}
+use native.Mathlib.Nat.{le-trans, le-of-eq, lt-irrefl, lt-of-le-of-lt, lt-of-lt-of-le, mul-assoc, mul-one, mul-right-comm, mul-le-mul-right, mul-lt-mul-of-pos-right, pow-succ', zero-lt-suc}
 use native.Mathlib.Omega.{arith}
-use lib.Dec.{T, lit<, lit≤}
-use lib.Arith.{le→nltb}
+use lib.Dec.{T, lit≤}
 use lib.Pow.{pow-add, pow-pos, pow-mono, shl-lt}
-use lib.Ieee.{Format, binary32, binary64, prec, emax, low, hid, ones, top, ofBits, nanBits}
-use lib.Ieee.Bits.{nanBits-above}
+use lib.Ieee.{Format, binary32, binary64, prec, emax, low, hid, ones, ofBits, nanBits}
 use Rattle.ieee.specs.Root.{root}
-use Rattle.ieee.specs.Squares.{IsRoot, sq-one, sq-double, sq-lt-back, four-more, rootOf-digits}
-use Rattle.ieee.specs.Values.{mag, mag-small, mag-normal, mag-pos, Sized, root-bits, ofBits-units}
+use Rattle.ieee.specs.Squares.{IsRoot, IsNear, sq-one, sq-double, sq-lt-back, four-more, near-root, root-near, rootOf-digits}
+use Rattle.ieee.specs.Patterns.{mag, mag-small, mag-normal, mag-pos, Sized, root-bits, ofBits-units, no-nan-below}
 
 pows : (m t j x l : ℕ) → t + (j + j) ≡ x + l → m * 2 ^ t * (2 ^ j * 2 ^ j) ≡ m * 2 ^ x * 2 ^ l
 pows m t j x l e =
@@ -147,27 +145,55 @@ exponents : (f : Format) (j : ℕ) → j ≤ most f → prec f + (j + 1) ≤ low
 exponents binary32 j h = omega arith
 exponents binary64 j h = omega arith
 
-pub finish : (f : Format) (b m j r : ℕ) → 0 < b → b < ones f * hid f → hid f ≤ m → Small f m → j ≤ most f → Sized f b m j → IsRoot (m * 2 ^ suc (prec f)) r
+digits-finish : (f : Format) (b m j r : ℕ) → 0 < b → b < ones f * hid f → hid f ≤ m → Small f m → j ≤ most f → Sized f b m j → IsRoot (m * 2 ^ suc (prec f)) r
     → ofBits f ((j + 1) * hid f + (r + 1) / 2) ≡ root f (ofBits f b)
-finish f b m j r p q lo hi J s h =
+digits-finish f b m j r p q lo hi J s h =
     let rl = root-lo f m r lo h in
     let rh = root-hi f m r hi h in
     ofBits-units f ((r + 1) / 2) (j + 1) (half-lo f r rl) (half-hi f r rh) (lt-of-lt-of-le (shl-lt (prec f) (j + 1) (half-hi f r rh)) (pow-mono (exponents f j J)))
     ∙ sym (rootOf-digits f (mag f b * 2 ^ low f) (m * 2 ^ suc (prec f)) j r (sized-is f b m j s) h rl (twice f r rh) (no-tie m (prec f) r))
     ∙ sym (root-bits f b p q)
 
-under : (f : Format) (j r : ℕ) → j ≤ most f → Small f r → ((j + 1) * hid f + (r + 1) / 2) % top f ≤ ones f * hid f
-under binary32 j r h k = omega arith
-under binary64 j r h k = omega arith
+-- ---- the same of q, the whole number nearest to the root of m * hid: half of the root with one digit more
+four-hid : (f : Format) (m : ℕ) → 4 * (m * hid f) ≡ m * 2 ^ suc (prec f)
+four-hid binary32 m = omega arith
+four-hid binary64 m = omega arith
 
-pub no-nan-bits : (f : Format) (j r : ℕ) → j ≤ most f → Small f r → T (not (nanBits f ((j + 1) * hid f + (r + 1) / 2)))
-no-nan-bits f j r h k =
-    let n = (j + 1) * hid f + (r + 1) / 2 in
-    subst (λ (t : Bool). T (not t)) (sym (nanBits-above f n)) (le→nltb (ones f * hid f) (n % top f) (under f j r h k))
+some : (f : Format) (m : ℕ) → hid f ≤ m → 0 < m * hid f
+some binary32 m h = omega arith
+some binary64 m h = omega arith
 
--- ---- what `digits` gives at the two formats' turns
+near-pos : (n q : ℕ) → 0 < n → IsNear n q → 0 < q
+near-pos n zero p h = absurd (omega arith)
+near-pos n (suc q) p h = zero-lt-suc q
+
+halved : (f : Format) (m q : ℕ) → hid f ≤ m → IsNear (m * hid f) q → (r : ℕ) × IsRoot (m * 2 ^ suc (prec f)) r × ((r + 1) / 2 ≡ q)
+halved f m q l h =
+    let w = near-root (m * hid f) q (near-pos (m * hid f) q (some f m l) h) h in
+    (w .0, subst (λ (n : ℕ). IsRoot n (w .0)) (four-hid f m) (w .1), w .2)
+
+pub near-hi : (f : Format) (m q : ℕ) → hid f ≤ m → Small f m → IsNear (m * hid f) q → q < 2 ^ prec f
+near-hi f m q l u h =
+    let w = halved f m q l h in
+    subst (λ (x : ℕ). x < 2 ^ prec f) (w .2) (half-hi f (w .0) (root-hi f m (w .0) u (w .1)))
+
+pub finish : (f : Format) (b m j q : ℕ) → 0 < b → b < ones f * hid f → hid f ≤ m → Small f m → j ≤ most f → Sized f b m j → IsNear (m * hid f) q
+    → ofBits f ((j + 1) * hid f + q) ≡ root f (ofBits f b)
+finish f b m j q p o l u J s h =
+    let w = halved f m q l h in
+    subst (λ (x : ℕ). ofBits f ((j + 1) * hid f + x) ≡ root f (ofBits f b)) (w .2) (digits-finish f b m j (w .0) p o l u J s (w .1))
+
+pub digits-near : (f : Format) (m r : ℕ) → hid f ≤ m → IsRoot (m * 2 ^ suc (prec f)) r → IsNear (m * hid f) ((r + 1) / 2)
+digits-near f m r l h = root-near (m * hid f) r (lt-of-lt-of-le (pow-pos (prec f)) (root-lo f m r l h)) (subst (λ (n : ℕ). IsRoot n r) (sym (four-hid f m)) h)
+
+-- ---- patterns that are no NaN's
+fits-under : (f : Format) (j q : ℕ) → j ≤ most f → q < 2 ^ prec f → (j + 1) * hid f + q ≤ ones f * hid f
+fits-under binary32 j q h k = omega arith
+fits-under binary64 j q h k = omega arith
+
+pub no-nan-bits : (f : Format) (j q : ℕ) → j ≤ most f → q < 2 ^ prec f → T (not (nanBits f ((j + 1) * hid f + q)))
+no-nan-bits f j q h k = no-nan-below f ((j + 1) * hid f + q) (fits-under f j q h k)
+
+-- ---- what `digits` gives at 54 turns
 pub at-54 : (m r : ℕ) → IsRoot (m * (2 ^ 54 * 2 ^ 54) / 2 ^ 54) r → IsRoot (m * 2 ^ 54) r
 at-54 m r h = subst (λ (x : ℕ). IsRoot x r) (ap (λ (x : ℕ). x / 2 ^ 54) (sym (mul-assoc m (2 ^ 54) (2 ^ 54))) ∙ native.Mathlib.Nat.mul-div-cancel (m * 2 ^ 54) (pow-pos 54)) h
-
-pub at-25 : (m r : ℕ) → IsRoot (m * 536870912 * (2 ^ 25 * 2 ^ 25) / 2 ^ 54) r → IsRoot (m * 2 ^ 25) r
-at-25 m r h = subst (λ (x : ℕ). IsRoot x r) (ap (λ (x : ℕ). x / 2 ^ 54) (mul-assoc m 536870912 (2 ^ 50) ∙ sym (mul-assoc m (2 ^ 25) (2 ^ 54))) ∙ native.Mathlib.Nat.mul-div-cancel (m * 2 ^ 25) (pow-pos 54)) h

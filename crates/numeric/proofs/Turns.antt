@@ -1,11 +1,11 @@
 -- A turn of `digits`, on natural numbers. `Taken m q rem rest i`: after i turns the root so far is q, (q * q + rem) has been taken of m * 4 ^ i / 2 ^ 54, and rest is what is left. Assumes nothing.
-use mathlib.Core.Path.{_≡_, refl, sym, ap, _∙_, subst}
-use Prim.Native.Nat.{ℕ, suc, _+_, _-_, _*_, _/_, _%_, _^_, _≤_, _<_}
-use native.Mathlib.Nat.{lt-of-lt-of-le, le-of-eq, mul-comm, mul-left-comm, mul-mul-mul-comm}
+use mathlib.Core.Path.{_≡_, sym, ap, _∙_, subst}
+use Prim.Native.Nat.{ℕ, _+_, _-_, _*_, _/_, _%_, _^_, _≤_, _<_}
+use native.Mathlib.Nat.{lt-of-lt-of-le, mul-comm, mul-left-comm, mul-mul-mul-comm}
 use native.Mathlib.Omega.{arith}
 use lib.Arith.{digits-div}
 use lib.Pow.{pow-add, pow-mono}
-use Rattle.ieee.specs.Squares.{IsRoot, sq-one, sq-double}
+use Rattle.ieee.specs.Squares.{IsRoot, sq-one}
 
 abbrev pub Taken : ℕ → ℕ → ℕ → ℕ → ℕ → Type 0
 Taken m q rem rest i = (q < 2 ^ i) × (rem ≤ 2 * q) × (rest < 2 ^ 54) × ((q * q + rem) * 2 ^ 54 + rest ≡ m * (2 ^ i * 2 ^ i))

@@ -1,83 +1,19 @@
 // What Rattle lacks on `f64`: square root, absolute value, larger of two, and the test for a finite number.
+mod square_root;
+
 ghost use mathlib.Core.Path.{_≡_};
-ghost use mathlib.Core.Bool.{not};
-ghost use Prim.Native.Nat.{_+_, _*_, _/_, _^_, _≤_, _<_};
-ghost use lib.Dec.{T};
-ghost use lib.Ieee.{binary64, ofBits, nanBits};
+ghost use lib.Ieee.{binary64};
 ghost use lib.Ieee.Scale.{finite};
 ghost use Rattle.ieee.specs.Numbers.{absolute, larger};
 ghost use Rattle.ieee.specs.Root.{root};
-ghost use Rattle.ieee.specs.Squares.{IsRoot};
-ghost use Rattle.ieee.specs.Values.{Sized};
+use square_root::root_bits;
 
-const HID: u64 = 4503599627370496;
+// The pattern of -0: the bit of the sign.
+const SIGN: u64 = 9223372036854775808;
 
-// The whole part of the root of m * 4^turns / 2^54, a digit a turn. q * q + rem is what has been taken of it.
-fn digits(m: u64, turns: u64) -> u64
-    requires { ⌜ (m < 2 ^ 54) × (turns ≤ 54) ⌝ }
-    ensures { λ r. ⌜ IsRoot (m * (2 ^ turns * 2 ^ turns) / 2 ^ 54) r ⌝ }
-{
-    let mut q = 0u64;
-    let mut rem = 0u64;
-    let mut rest = m;
-    let mut i = 0u64;
-    while i < turns {
-        rem = rem * 4 + rest / HID;
-        rest = rest % HID * 4;
-        let t = q * 4 + 1;
-        q = q * 2;
-        if t <= rem {
-            rem = rem - t;
-            q = q + 1;
-        }
-        i = i + 1;
-    }
-    q
-}
+const INFINITY: u64 = 9218868437227405312;
 
-struct Scaled {
-    m: u64,
-    j: u64,
-}
-
-// The size of a number above zero as m * 2^54 * 4^j squares of the smallest value.
-fn parts(b: u64) -> Scaled
-    requires { ⌜ (0 < b) × (b < 9218868437227405312) ⌝ }
-    ensures { λ r. ⌜ (r .m < 18014398509481983) × (r .j ≤ 1532) × (Sized binary64 b (r .m) (r .j)) ⌝ }
-{
-    if b < HID {
-        return Scaled { m: b, j: 510 };
-    }
-    let e = b / HID;
-    let m = HID + b % HID;
-    if e % 2 == 0 {
-        return Scaled {
-            m: m * 2,
-            j: (e + 1018) / 2,
-        };
-    }
-    Scaled {
-        m,
-        j: (e + 1019) / 2,
-    }
-}
-
-// The pattern of the root, from the pattern of a number above zero.
-fn root_bits(b: u64) -> u64
-    requires { ⌜ (0 < b) × (b < 9218868437227405312) ⌝ }
-    ensures { λ r. ⌜ (T (not (nanBits binary64 r))) × (ofBits binary64 r ≡ root binary64 (ofBits binary64 b)) ⌝ }
-{
-    let p = parts(b);
-    let mut m = p.m;
-    let mut j = p.j;
-    while m < HID {
-        m = m * 4;
-        j = j - 1;
-    }
-    let r = digits(m, 54);
-    (j + 1) * HID + (r + 1) / 2
-}
-
+// The square root of IEEE 754: the nearest float, of -0 -0, of what is negative or a NaN a NaN.
 pub fn sqrt(x: f64) -> f64
     ensures { λ r. ⌜ r ≡ root binary64 x ⌝ }
 {
@@ -85,18 +21,19 @@ pub fn sqrt(x: f64) -> f64
         return x;
     }
     if x == 0.0 {
-        return x;
+        return x; // with its sign
     }
     let b = f64::to_bits(x);
-    if b >= 9223372036854775808 {
+    if b >= SIGN {
         return 0.0 / 0.0;
     }
-    if b >= 9218868437227405312 {
+    if b >= INFINITY {
         return x;
     }
     f64::from_bits(root_bits(b))
 }
 
+// The same number with the sign cleared, also of -0.
 pub fn abs(x: f64) -> f64
     ensures { λ r. ⌜ r ≡ absolute x ⌝ }
 {
@@ -109,11 +46,12 @@ pub fn abs(x: f64) -> f64
     x
 }
 
+// The larger of two; where one is a NaN the other; of two that are equal the first.
 pub fn max(a: f64, b: f64) -> f64
     ensures { λ r. ⌜ r ≡ larger a b ⌝ }
 {
     if a != a {
-        return b;
+        return b; // a NaN is dropped
     }
     if a < b {
         return b;
@@ -121,6 +59,7 @@ pub fn max(a: f64, b: f64) -> f64
     a
 }
 
+// Neither an infinity nor a NaN: either of them minus itself is a NaN.
 pub fn is_finite(x: f64) -> bool
     ensures { λ r. ⌜ r ≡ finite x ⌝ }
 {

@@ -1,9 +1,9 @@
 -- `numeric::abs` meets its contract (`proofs/Signs.antt`). Assumes nothing.
-use mathlib.Core.Path.{_≡_, refl, sym, ap, _∙_, subst}
+use mathlib.Core.Path.{_≡_, sym, ap, _∙_, subst}
 use lib.Dec.{T}
-use lib.Ieee.{Float, binary64, eq, lt, fits, ofBits}
+use lib.Ieee.{binary64, eq, lt, ofBits}
 use Rattle.ieee.specs.Numbers.{null}
-use Rattle.ieee.specs.Values.{zero-bits}
+use Rattle.ieee.specs.Special.{zero-bits}
 use Rattle.numeric.proofs.Signs.{abs-less, abs-zero, abs-same}
 use Rattle.numeric.proofs.abs.Statement.{statement}
 use Rattle.numeric.proofs.abs.Tie as tie

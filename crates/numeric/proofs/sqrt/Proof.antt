@@ -1,21 +1,17 @@
 -- `numeric::sqrt` meets its contract. Assumes nothing.
 use mathlib.Core.Path.{_≡_, refl, sym, ap, _∙_, subst}
-use mathlib.Core.Bool.{true, false}
-use Prim.Native.Nat.{_/_}
+use mathlib.Core.Bool.{false}
 use native.Mathlib.Omega.{arith}
 use lib.Dec.{T, leb, le→leb}
-use lib.Ieee.{Float, nan, binary64, div, eq, fits, ofBits, toBits}
+use lib.Ieee.{nan, binary64, div, eq, fits, ofBits, toBits}
 use lib.Ieee.Bits.{is-true, ofBits-toBits}
 use lib.Ieee.Compare.{differs-from-itself}
 use borrow.Author.Needs.{needs}
 use Rattle.ieee.specs.Root.{root}
 use Rattle.ieee.specs.Numbers.{null}
-use Rattle.ieee.specs.Values.{zero-bits, nan-root, no-nan, zero-root, minus-root, last-root, bits-pos}
+use Rattle.ieee.specs.Special.{zero-bits, nan-root, no-nan, zero-root, minus-root, last-root, bits-pos}
 use Rattle.numeric.proofs.sqrt.Statement.{statement}
 use Rattle.numeric.proofs.sqrt.Tie as tie
-use Rattle.numeric.proofs.sqrt.Reads as reads
-use Rattle.numeric.proofs.sqrt.Lts as lts
-use Rattle.numeric.proofs.root_bits.Reads as root-bits-reads
 
 -- what owning an `f64` tells: the format holds it
 held : (c : tie.Start) → T (fits binary64 (c .args .x))
