@@ -1,4 +1,5 @@
 pub mod Constants
+pub mod Literals
 pub mod Vectors
 pub mod Process
 pub mod State
