@@ -7,3 +7,4 @@ pub mod Loop
 pub mod Psi
 pub mod Refusals
 pub mod Play
+pub mod Bounds
