@@ -8,3 +8,4 @@ pub mod Psi
 pub mod Refusals
 pub mod Play
 pub mod Bounds
+pub mod Least
