@@ -9,3 +9,4 @@ pub mod Refusals
 pub mod Play
 pub mod Bounds
 pub mod Least
+pub mod Paths
