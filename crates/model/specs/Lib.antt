@@ -10,3 +10,6 @@ pub mod Play
 pub mod Bounds
 pub mod Least
 pub mod Paths
+pub mod Scoring
+pub mod Counts
+pub mod Plans
