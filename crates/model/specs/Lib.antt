@@ -13,3 +13,4 @@ pub mod Paths
 pub mod Scoring
 pub mod Counts
 pub mod Plans
+pub mod EverySolve
