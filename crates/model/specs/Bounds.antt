@@ -99,8 +99,8 @@ module _ (f : Format) (s : Settings) (w : Weights) where
     onward-at-most : (e : Status) (i : Iterate) → AtMost (weigh w) (onward f s e next i) n
     unfolding onward
     onward-at-most converged i = go i
-    onward-at-most notConvergedIterations i = at-most-more _ (finish f s notConvergedIterations i) _ n last (finish-at-most notConvergedIterations i)
-    onward-at-most notConvergedOutOfTime i = at-most-more _ (finish f s notConvergedOutOfTime i) _ n last (finish-at-most notConvergedOutOfTime i)
+    onward-at-most notConvergedIterations i = at-most-more _ (finish f s _ i) _ n last (finish-at-most _ i)
+    onward-at-most notConvergedOutOfTime i = at-most-more _ (finish f s _ i) _ n last (finish-at-most _ i)
 
     -- the first step's move
     first-at-most : (e : Status) (i : Iterate) → AtMost (weigh w) (firstMove f s e next i) (move w + n)
@@ -190,7 +190,7 @@ module _ (f : Format) (s : Settings) (w : Weights) where
 
   laps-at-most : (l : ℕ) (i : Iterate) → AtMost (weigh w) (laps f s l i) (lapsBound l)
   unfolding laps timed weigh
-  laps-at-most zero i = at-most-more _ (finish f s notConvergedIterations i) _ _ (omega arith) (finish-at-most notConvergedIterations i)
+  laps-at-most zero i = at-most-more _ (finish f s _ i) _ _ (omega arith) (finish-at-most _ i)
   laps-at-most (suc l) i =
       let lap : (e : Status) → AtMost (weigh w) (step f s e (laps f s l) (counted i)) _ = λ e. later-at-most (laps f s l) (lapsBound l) (omega arith) (laps-at-most l) e i in
       at-most-cond _ _ (s .limited) _ _ (22 * w .cost + 11 * w .gradient + 21 * w .project + w .direction + lapsBound l, omega arith, λ inTime. lap _)

@@ -52,7 +52,7 @@ less-size : (f : Format) (γ : Float) (n : ℕ) (a b : List Float) → length a 
 unfolding lessTimes
 less-size f γ n a b p q = zip-size _ n a b p q
 
-minus-size : (f : Format) (n : ℕ) (a b : List Float) → length a ≡ n → length b ≡ n → length (minus f a b) ≡ n
+pub minus-size : (f : Format) (n : ℕ) (a b : List Float) → length a ≡ n → length b ≡ n → length (minus f a b) ≡ n
 unfolding minus
 minus-size f n a b p q = zip-size _ n a b p q
 
@@ -66,7 +66,7 @@ candidate-size f n τ d st p q r = less-size f τ n _ d (less-size f _ n (st .at
 
 -- ---- tests
 
-and-left : (a b : Bool) → a && b ≡ true → a ≡ true
+pub and-left : (a b : Bool) → a && b ≡ true → a ≡ true
 and-left true b e = refl
 and-left false b e = e
 
@@ -75,10 +75,10 @@ passes-below : (f : Format) (s : Settings) (st : State) → passes f s st ≡ tr
 unfolding passes
 passes-below f s st e = and-left _ _ e
 
-iterations-not : {X : Type 0} → notConvergedIterations ≡ converged → X
+pub iterations-not : {X : Type 0} → notConvergedIterations ≡ converged → X
 iterations-not e = let z : _≡_ {A = ℕ} 0 1 = cc in absurd (omega arith)
 
-time-not : {X : Type 0} → notConvergedOutOfTime ≡ converged → X
+pub time-not : {X : Type 0} → notConvergedOutOfTime ≡ converged → X
 time-not e = let z : _≡_ {A = ℕ} 0 1 = cc in absurd (omega arith)
 
 -- ---- the walk

@@ -14,3 +14,4 @@ pub mod Scoring
 pub mod Counts
 pub mod Plans
 pub mod EverySolve
+pub mod EveryLoop
