@@ -15,3 +15,4 @@ pub mod Counts
 pub mod Plans
 pub mod EverySolve
 pub mod EveryLoop
+pub mod Carry
