@@ -32,7 +32,7 @@ pub record LoopEnd (f : Format) (s : LoopSettings) (G : Type 0) (x : Trail) (h :
 
 -- ---- tests
 
-and-right : (a b : Bool) → a && b ≡ true → b ≡ true
+pub and-right : (a b : Bool) → a && b ≡ true → b ≡ true
 and-right true b e = e
 and-right false b e = let z : _≡_ {A = ℕ} 0 1 = cc in absurd (omega arith)
 

@@ -16,3 +16,4 @@ pub mod Plans
 pub mod EverySolve
 pub mod EveryLoop
 pub mod Carry
+pub mod Starts
