@@ -13,15 +13,16 @@ use lib.ListN.{length}
 use Rattle.ieee.specs.Numbers.{null}
 use Rattle.ieee.specs.Order.{upward}
 use Rattle.model.specs.Constants.{epsilon}
-use Rattle.model.specs.Vectors.{minus, plusTimes}
+use Rattle.model.specs.Vectors.{minus}
 use Rattle.model.specs.Process.{inner, Status, converged, notConvergedIterations, notConvergedOutOfTime, LoopHanded, Loop}
 use Rattle.model.specs.Inner.{solve}
 use Rattle.model.specs.Loop.{LoopSettings, LoopState, Found, xiOf, penaltyOf, withY, innerSettings, exits, nextAkkt, concluded, conclude, counted, weighed, gotF2, askF2, gotC, gotF1, askF1, solved, innerSolve, gotY, iteration, outOfTime, timed, begins, iterations, firstState, loop}
+use Rattle.model.specs.Facts.{and-left, and-right, or-else, iterations-not, time-not, minus-size, plus-times-size}
 use Rattle.model.specs.Paths.{both, Along, along-cond, along-within, along-left, along-right}
 use Rattle.model.specs.Scoring.{seenInLoop, nothingYet, after, vectorIn, tracing, Traced}
 use Rattle.model.specs.Counts.{counting, Counted, LoopCount}
 use Rattle.model.specs.Plans.{scoring, Ends, Plan, akktAt, ExitPassed, LoopPlan}
-use Rattle.model.specs.EverySolve.{Trail, watching, SolveEnd, solve-good, noTrail, zip-size, minus-size, and-left, iterations-not, time-not}
+use Rattle.model.specs.EverySolve.{Trail, watching, SolveEnd, solve-good, noTrail}
 
 -- what is known at the end of the loop; G is what the plan asks of the start
 pub record LoopEnd (f : Format) (s : LoopSettings) (G : Type 0) (x : Trail) (h : LoopHanded) : Type 0 where
@@ -29,20 +30,6 @@ pub record LoopEnd (f : Format) (s : LoopSettings) (G : Type 0) (x : Trail) (h :
   pub exit : h .status ≡ converged → ExitPassed f s h
   pub most : h .outer ≤ s .outer
   pub count : LoopCount (x .1 .1) h
-
--- ---- tests
-
-pub and-right : (a b : Bool) → a && b ≡ true → b ≡ true
-and-right true b e = e
-and-right false b e = let z : _≡_ {A = ℕ} 0 1 = cc in absurd (omega arith)
-
-or-else : (a b : Bool) → a ≡ false → a || b ≡ true → b ≡ true
-or-else true b z e = let z : _≡_ {A = ℕ} 0 1 = cc in absurd (omega arith)
-or-else false b z e = e
-
-plus-times-size : (f : Format) (c : Float) (n : ℕ) (a b : List Float) → length a ≡ n → length b ≡ n → length (plusTimes f c a b) ≡ n
-unfolding plusTimes
-plus-times-size f c n a b p q = zip-size _ n a b p q
 
 -- with n1 > 0 the penalty handed back is the iteration's
 penalty-is : (s : LoopSettings) (c : Float) → eqb (s .n1) 0 ≡ false → penaltyOf s c ≡ c

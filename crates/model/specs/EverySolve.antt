@@ -1,8 +1,8 @@
 -- Every way through an inner solve: what it scores, what it hands back, how it counts, shown by one walk through its continuations. Assumes nothing.
 use Prim.Native.Nat.{ℕ, zero, suc, _+_, _≤_}
 use mathlib.Core.Path.{_≡_, refl, sym, ap, _∙_}
-use mathlib.Core.Bool.{Bool, true, false, _&&_}
-use mathlib.Core.List.{List, [], _∷_, _++_, zipWith, map}
+use mathlib.Core.Bool.{Bool, true, _&&_}
+use mathlib.Core.List.{List, [], _∷_, _++_}
 use native.Mathlib.Omega.{arith}
 use lib.Dec.{T, eqb}
 use lib.Ieee.{Float, Format, lt}
@@ -11,10 +11,11 @@ use lib.ListN.{length, length-append}
 use Rattle.ieee.specs.Order.{upward}
 use Rattle.ieee.specs.Sums.{norm, norm-upward}
 use Rattle.model.specs.Constants.{maxLipschitzConstant, maxLipschitzUpdates, maxLinesearchIterations}
-use Rattle.model.specs.Vectors.{allFinite, minus, plus, lessTimes, shifts, shifted}
+use Rattle.model.specs.Vectors.{allFinite, minus}
 use Rattle.model.specs.Process.{Status, converged, notConvergedIterations, notConvergedOutOfTime, Handed, Solve}
 use Rattle.model.specs.State.{Settings, Best, keep, Iterate, State, counted}
-use Rattle.model.specs.Inner.{Next, candidate, ceiling, renewed, doubled, passes, entered, opening, begun, finish, lastTest, lastCost, onward, firstMove, firstCost, firstGradient, firstProject, triedProject, triedGradient, triedCost, trial, retry, search, directed, askDirection, doubledCost, doubledProject, doubling, halfCost, tested, step, standing, timed, laps, solve, startCost, startGradient, startShifted, startProject}
+use Rattle.model.specs.Inner.{Next, ceiling, renewed, doubled, passes, entered, opening, begun, finish, lastTest, lastCost, onward, firstMove, firstCost, firstGradient, firstProject, triedProject, triedGradient, triedCost, trial, retry, search, directed, askDirection, doubledCost, doubledProject, doubling, halfCost, tested, step, standing, timed, laps, solve, startCost, startGradient, startShifted, startProject}
+use Rattle.model.specs.Facts.{and-left, iterations-not, time-not, minus-size, shifted-size, candidate-size}
 use Rattle.model.specs.Paths.{Watch, both, Along, along-cond, along-left, along-right}
 use Rattle.model.specs.Scoring.{Seen, seen, Latest, nothingYet, after, vectorIn, tracing, Traced}
 use Rattle.model.specs.Counts.{Tally, counting, Counted, SolveCount}
@@ -35,51 +36,10 @@ pub record SolveEnd (s : Settings) (G : Type 0) (a b : ℕ) (x : Trail) (h : Han
   pub solves : x .1 .1 .solves ≡ a
   pub scores : x .1 .1 .scores ≡ b + (h .iterations + 2)
 
--- ---- sizes
-
-pub zip-size : (g : Float → Float → Float) (n : ℕ) (a b : List Float) → length a ≡ n → length b ≡ n → length (zipWith g a b) ≡ n
-unfolding zipWith
-zip-size g n [] b p q = p
-zip-size g n (x ∷ a) [] p q = q
-zip-size g zero (x ∷ a) (y ∷ b) p q = absurd (omega arith)
-zip-size g (suc n) (x ∷ a) (y ∷ b) p q = ap suc (zip-size g n a b (omega arith) (omega arith))
-
-map-size : (g : Float → Float) (a : List Float) → length (map g a) ≡ length a
-map-size g [] = refl
-map-size g (x ∷ a) = ap suc (map-size g a)
-
-less-size : (f : Format) (γ : Float) (n : ℕ) (a b : List Float) → length a ≡ n → length b ≡ n → length (lessTimes f γ a b) ≡ n
-unfolding lessTimes
-less-size f γ n a b p q = zip-size _ n a b p q
-
-pub minus-size : (f : Format) (n : ℕ) (a b : List Float) → length a ≡ n → length b ≡ n → length (minus f a b) ≡ n
-unfolding minus
-minus-size f n a b p q = zip-size _ n a b p q
-
-shifted-size : (f : Format) (u : List Float) → length (shifted f u) ≡ length u
-unfolding shifted plus shifts
-shifted-size f u = zip-size _ (length u) u (map _ u) refl (map-size _ u)
-
-candidate-size : (f : Format) (n : ℕ) (τ : Float) (d : List Float) (st : State) → length (st .at .u) ≡ n → length (st .residual) ≡ n → length d ≡ n → length (candidate f τ d st) ≡ n
-unfolding candidate
-candidate-size f n τ d st p q r = less-size f τ n _ d (less-size f _ n (st .at .u) (st .residual) p q) r
-
--- ---- tests
-
-pub and-left : (a b : Bool) → a && b ≡ true → a ≡ true
-and-left true b e = refl
-and-left false b e = e
-
 -- the test that ends a solve says that the norm is below the tolerance
 passes-below : (f : Format) (s : Settings) (st : State) → passes f s st ≡ true → lt (st .norm) (s .tolerance) ≡ true
 unfolding passes
 passes-below f s st e = and-left _ _ e
-
-pub iterations-not : {X : Type 0} → notConvergedIterations ≡ converged → X
-iterations-not e = let z : _≡_ {A = ℕ} 0 1 = cc in absurd (omega arith)
-
-pub time-not : {X : Type 0} → notConvergedOutOfTime ≡ converged → X
-time-not e = let z : _≡_ {A = ℕ} 0 1 = cc in absurd (omega arith)
 
 -- ---- the walk
 

@@ -14,6 +14,7 @@ use Rattle.ieee.specs.Finite.{sub-finite}
 use Rattle.ieee.specs.Order.{upward, irreflexive, cotrans, trans}
 use Rattle.ieee.specs.Sums.{AllFinite, norm, norm-finite}
 use Rattle.model.specs.Vectors.{minus}
+use Rattle.model.specs.Facts.{true-false}
 use Rattle.model.specs.State.{Best, noBest, keep}
 
 -- ---- the statements
@@ -63,9 +64,6 @@ all-both P Q R f (x ∷ xs) a b = (f x (a .0) (b .0), all-both P Q R f xs (a .1)
 
 -- ---- floats
 
-tf : {X : Type 0} → true ≡ false → X
-tf e = absurd (omega (arith, ap {B = ℕ} (λ (b : Bool). cond b 1 0) e))
-
 not-below : (x y : Float) → T (upward x) → (T (finite x) → ⊥) → lt x y ≡ false
 unfolding lt
 not-below nan y u h = refl
@@ -80,13 +78,13 @@ below-finite x y u h = by (finite x) refl
   where
     by : (b : Bool) → finite x ≡ b → T (finite x)
     by true e = subst (λ (b : Bool). T b) (sym e) tt
-    by false e = tf (sym h ∙ not-below x y u (λ w. subst (λ (b : Bool). T b) e w))
+    by false e = true-false (sym h ∙ not-below x y u (λ w. subst (λ (b : Bool). T b) e w))
 
 infinite-not : (x : Float) → lt x (inf false) ≡ false → T (finite x) → ⊥
 unfolding lt
 infinite-not nan h w = w
 infinite-not (inf s) h w = w
-infinite-not (fin s m e) h w = tf h
+infinite-not (fin s m e) h w = true-false h
 
 finite-number : (x : Float) → T (finite x) → isNan x ≡ false
 unfolding isNan
@@ -138,7 +136,7 @@ module _ (n : ℕ) (scores : List Scored) (b : Best) (k : Kept n scores b) (h : 
       under y v q = go (lt (y .norm) x) refl
         where
           go : (c : Bool) → lt (y .norm) x ≡ c → lt (y .norm) x ≡ false
-          go true p = tf (sym (trans (y .norm) x (b .norm) v u (k .up) (k .number) p e) ∙ q)
+          go true p = true-false (sym (trans (y .norm) x (b .norm) v u (k .up) (k .number) p e) ∙ q)
           go false p = p
 
       over : (y : Scored) → T (upward (y .norm)) → lt (y .norm) (b .norm) ≡ false → T (finite (y .norm)) → lt x (y .norm) ≡ true
@@ -146,7 +144,7 @@ module _ (n : ℕ) (scores : List Scored) (b : Best) (k : Kept n scores b) (h : 
         where
           go : (lt x (y .norm) ≡ true) ⊎ (lt (y .norm) (b .norm) ≡ true) → lt x (y .norm) ≡ true
           go (inl p) = p
-          go (inr p) = tf (sym p ∙ q)
+          go (inr p) = true-false (sym p ∙ q)
 
       made : All (λ (y : Scored). lt (y .norm) (b .norm) ≡ false) scores → Kept n (scores ++ (new ∷ [])) (record { point = h; norm = x })
       made q =
@@ -222,5 +220,5 @@ module _ (n : ℕ) (scores : List Scored) (b : Best) (k : Kept n scores b) (h : 
       by false q = subst (λ (z : Best). lt (z .norm) t ≡ true) (sym (not-replaced q)) (go (cotrans x (b .norm) t u (k .up) v (k .number) e))
         where
           go : (lt x (b .norm) ≡ true) ⊎ (lt (b .norm) t ≡ true) → lt (b .norm) t ≡ true
-          go (inl p) = tf (sym p ∙ q)
+          go (inl p) = true-false (sym p ∙ q)
           go (inr p) = p

@@ -7,6 +7,7 @@ pub mod Loop
 pub mod Psi
 pub mod Refusals
 pub mod Play
+pub mod Facts
 pub mod Bounds
 pub mod Least
 pub mod Paths

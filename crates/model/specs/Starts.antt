@@ -16,13 +16,14 @@ use Rattle.model.specs.State.{Settings}
 use Rattle.model.specs.Loop.{LoopSettings}
 use Rattle.model.specs.Psi.{Sizes}
 use Rattle.model.specs.Refusals.{unless, sizesRight, xiLength, mappingsRight, limitRight, toleranceRight, akktRight, loopNumbersRight, innerRefusal, loopRefusal, penaltyIn, multipliersIn, orRefused, startInner, startLoop, startPsi, startDPsi}
+use Rattle.model.specs.Facts.{and-left, and-right}
 use Rattle.model.specs.Bounds.{AtMost, Weights, weigh, solveBound, solve-at-most, solve-questions-at-most, worstCase, loop-at-most, psi-at-most, d-psi-at-most}
 use Rattle.model.specs.Paths.{Watch, Along}
 use Rattle.model.specs.Scoring.{seen, seenInLoop, nothingYet, tracing, Traced}
 use Rattle.model.specs.Counts.{counting, Counted, SolveCount, LoopCount}
 use Rattle.model.specs.Plans.{scoring, Ends, SolvePlan, LoopPlan}
-use Rattle.model.specs.EverySolve.{and-left, solve-traced, solve-ends, solve-counted}
-use Rattle.model.specs.EveryLoop.{and-right, loop-traced, loop-ends, loop-counted, one-outer-never-converged}
+use Rattle.model.specs.EverySolve.{solve-traced, solve-ends, solve-counted}
+use Rattle.model.specs.EveryLoop.{loop-traced, loop-ends, loop-counted, one-outer-never-converged}
 
 -- ---- what an accepted start says
 
