@@ -8,3 +8,14 @@ pub mod Loop
 pub mod Psi
 pub mod Refusals
 pub mod Play
+pub mod Facts
+pub mod Bounds
+pub mod Least
+pub mod Paths
+pub mod Scoring
+pub mod Counts
+pub mod Plans
+pub mod EverySolve
+pub mod EveryLoop
+pub mod Carry
+pub mod Starts
