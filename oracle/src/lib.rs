@@ -1,0 +1,13 @@
+//! The oracle: runs of the Rust engine written as scripts with the lines that must follow.
+
+pub mod drive;
+pub mod floats;
+pub mod play;
+pub mod random;
+pub mod reference;
+pub mod replay;
+pub mod session;
+pub mod start;
+pub mod table;
+pub mod tally;
+pub mod tape;
