@@ -1,7 +1,9 @@
 //! The oracle: runs of the Rust engine written as scripts with the lines that must follow.
 
+pub mod compare;
 pub mod drive;
 pub mod floats;
+pub mod generate;
 pub mod play;
 pub mod random;
 pub mod reference;
