@@ -18,7 +18,7 @@ struct Batch {
     child: Child,
 }
 
-/// Compares `count` runs of a seed; the first difference comes back as a text.
+/// Compares `count` runs of a seed; the first difference comes back as a text, and its script as a file.
 pub fn compare(
     seed: u64,
     count: u64,
@@ -37,8 +37,8 @@ pub fn compare(
             next += 1;
         }
         if let Some(batch) = at_work.take() {
-            if let Some(difference) = finish(batch)? {
-                return Ok((tally, Some(difference)));
+            if let Some(text) = finish(batch, folder)? {
+                return Ok((tally, Some(text)));
             }
         }
         if !tape.script.is_empty() {
@@ -62,15 +62,14 @@ fn begin(tape: Tape, program: &Path, folder: &Path, number: usize) -> io::Result
 }
 
 /// Waits for the program and compares what it printed.
-fn finish(mut batch: Batch) -> io::Result<Option<String>> {
+fn finish(mut batch: Batch, folder: &Path) -> io::Result<Option<String>> {
     let status = batch.child.wait()?;
     let got = std::fs::read(&batch.got)?;
     if got != batch.tape.expected {
-        return Ok(Some(difference(
-            &batch.tape.script,
-            &batch.tape.expected,
-            &got,
-        )));
+        let found = difference(&batch.tape.script, &batch.tape.expected, &got);
+        let script = found.script.join("\n") + "\n";
+        std::fs::write(folder.join("difference"), script)?;
+        return Ok(Some(found.text()));
     }
     if !status.success() {
         return Ok(Some(format!("the program ended with {status}\n")));
@@ -78,32 +77,65 @@ fn finish(mut batch: Batch) -> io::Result<Option<String>> {
     Ok(None)
 }
 
-/// The script of the run up to the first line that differs, what was expected there and what came.
-pub fn difference(script: &[u8], expected: &[u8], got: &[u8]) -> String {
+/// Where a transcript differs first.
+pub struct Difference {
+    /// The script of the run up to there.
+    pub script: Vec<String>,
+    pub expected: String,
+    pub got: String,
+}
+
+/// Compares line by line.
+pub fn difference(script: &[u8], expected: &[u8], got: &[u8]) -> Difference {
     let text = |line: Option<&[u8]>| match line {
         Some(line) => String::from_utf8_lossy(line).into_owned(),
         None => "(nothing)".to_string(),
     };
     let mut expected = expected.split(|&b| b == b'\n');
     let mut got = got.split(|&b| b == b'\n');
-    let mut run = String::new();
+    let mut run = Vec::new();
     for line in script.split(|&b| b == b'\n') {
         let line = text(Some(line));
         if is_start(&line) {
             run.clear();
         }
+        run.push(line);
         let (e, g) = (expected.next(), got.next());
-        run.push_str(&line);
-        run.push('\n');
         if e != g {
-            return format!("{run}expected: {}\ngot:      {}\n", text(e), text(g));
+            return Difference {
+                script: run,
+                expected: text(e),
+                got: text(g),
+            };
         }
     }
-    format!("{run}expected: (the end)\ngot:      {}\n", text(got.next()))
+    Difference {
+        script: run,
+        expected: "(the end)".to_string(),
+        got: text(got.next()),
+    }
 }
 
 fn is_start(line: &str) -> bool {
     ["inner ", "loop ", "psi ", "d_psi "]
         .iter()
         .any(|word| line.starts_with(word))
+}
+
+impl Difference {
+    /// For the log: of a long script, the first line and the last 300.
+    pub fn text(&self) -> String {
+        let last = self.script.len().saturating_sub(300);
+        let mut text = String::new();
+        if last > 0 {
+            text.push_str(&format!("{}\n(.. {} lines ..)\n", self.script[0], last - 1));
+        }
+        for line in &self.script[last..] {
+            text.push_str(line);
+            text.push('\n');
+        }
+        text.push_str(&format!("expected: {}\n", self.expected));
+        text.push_str(&format!("got:      {}\n", self.got));
+        text
+    }
 }

@@ -102,8 +102,7 @@ pub fn run(session: Session, start: &Start) -> Session {
         Ok(Err(error)) => refused(&mut session, error),
         Err(panic) => {
             let text = panic_text(panic.as_ref());
-            let nan = text.contains("delta_y_norm must be") || text.contains("f2_norm must be");
-            assert!(start.call == Call::Loop && nan, "the Rust panics: {text}");
+            assert!(means_18(&text), "the Rust panics: {text}");
             session.tape.print_refused(18);
             session.tally.refused(18);
         }
@@ -304,6 +303,22 @@ fn end_name(session: &mut Session, end: ExitStatus) -> &'static str {
     };
     session.tally.add(name);
     name
+}
+
+/// The Rust panics where document 01 refuses by 18.
+fn means_18(panic: &str) -> bool {
+    panic.contains("delta_y_norm must be nonnegative")
+        || panic.contains("f2_norm must be nonnegative")
+}
+
+/// Keeps those panics from the terminal.
+pub fn hush_expected_panics() {
+    let usual = std::panic::take_hook();
+    std::panic::set_hook(Box::new(move |info| {
+        if !means_18(&panic_text(info.payload())) {
+            usual(info);
+        }
+    }));
 }
 
 fn panic_text(panic: &(dyn std::any::Any + Send)) -> String {

@@ -6,6 +6,7 @@ pub mod floats;
 pub mod generate;
 pub mod play;
 pub mod random;
+pub mod record;
 pub mod reference;
 pub mod replay;
 pub mod session;

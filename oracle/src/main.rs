@@ -3,7 +3,7 @@
 use oracle::generate::{self, Mix};
 use oracle::tally::Tally;
 use oracle::tape::Tape;
-use oracle::{compare, replay};
+use oracle::{compare, drive, record, replay};
 use std::io::{Read, Write};
 use std::path::Path;
 use std::process::ExitCode;
@@ -12,6 +12,7 @@ const USAGE: &str = "
 oracle generate SEED FIRST COUNT SCRIPT EXPECTED   writes runs FIRST.. of a seed into two files
 oracle run SEED NUMBER                             prints one run, each line with what it prints
 oracle compare SEED COUNT PROGRAM FOLDER           compares a transcript program, a batch at a time
+oracle record CORNERS FOLDER                       writes the recorded list as FOLDER/stdin and FOLDER/stdout
 oracle expect                                      reads a script or a file of corners, prints the expected lines
 The mix of kinds may follow `generate`, `run` and `compare`: of a thousand runs INNER LOOP PSI, the rest d_psi.
 ";
@@ -19,7 +20,7 @@ The mix of kinds may follow `generate`, `run` and `compare`: of a thousand runs 
 fn main() -> ExitCode {
     let words: Vec<String> = std::env::args().skip(1).collect();
     let words: Vec<&str> = words.iter().map(String::as_str).collect();
-    std::panic::set_hook(Box::new(|_| {}));
+    drive::hush_expected_panics();
     match command(&words) {
         Some(code) => code,
         None => {
@@ -53,7 +54,16 @@ fn command(words: &[&str]) -> Option<ExitCode> {
             let (program, folder) = (Path::new(program), Path::new(folder));
             let (tally, difference) = compare::compare(seed, count, &mix_of(mix)?, program, folder)
                 .expect("the program runs and the folder can be written");
-            Some(report(&tally, difference))
+            Some(report(&tally, difference, folder))
+        }
+        ["record", corners, folder] => {
+            let corners = std::fs::read_to_string(corners).expect("the corners can be read");
+            let (tape, tally) = record::record(&corners);
+            let folder = Path::new(folder);
+            std::fs::write(folder.join("stdin"), &tape.script).expect("stdin is written");
+            std::fs::write(folder.join("stdout"), &tape.expected).expect("stdout is written");
+            print!("{}", tally.lines());
+            Some(ExitCode::SUCCESS)
         }
         ["expect"] => {
             let mut text = String::new();
@@ -77,10 +87,11 @@ fn runs(seed: u64, first: u64, count: u64, mix: &Mix) -> (Tape, Tally) {
 }
 
 /// Prints the counts, the difference if there is one, and the runs of each kind.
-fn report(tally: &Tally, difference: Option<String>) -> ExitCode {
+fn report(tally: &Tally, difference: Option<String>, folder: &Path) -> ExitCode {
     print!("{}", tally.lines());
     if let Some(text) = &difference {
         println!("the first difference:\n{text}");
+        println!("its script is in {}/difference", folder.display());
     }
     let verdict = match difference {
         None => "compared, no difference",

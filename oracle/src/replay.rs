@@ -60,30 +60,41 @@ pub fn replay(lines: Vec<Vec<u8>>, mut tape: Tape, mut tally: Tally) -> (Tape, T
     (tape, tally)
 }
 
-/// Reads a file of corners: floats may be decimals with a point, `nan`, `inf` or `-inf`, and `#` begins a remark.
+/// Reads a file of corners, which is a script in an easier hand: floats may be decimals with a point, `nan`, `inf`
+/// or `-inf`; `X*N` stands for N times X; `#` begins a remark; after `! ` a line stands as it is.
 pub fn corners(text: &str) -> Vec<Vec<u8>> {
     let mut lines = Vec::new();
     for line in text.lines() {
-        if line.starts_with('#') || line.trim().is_empty() {
-            continue;
-        }
         if let Some(literal) = line.strip_prefix("! ") {
             lines.push(literal.as_bytes().to_vec());
             continue;
         }
-        let line = line.split(" #").next().unwrap_or(line).trim_end();
-        let mut out = Vec::new();
-        for (i, word) in line.split(' ').enumerate() {
-            if i > 0 {
-                out.push(b' ');
-            }
-            let decimal = word.contains('.') || ["nan", "inf", "-inf"].contains(&word);
-            match word.parse::<f64>() {
-                Ok(x) if decimal => floats::write(&mut out, x),
-                _ => out.extend_from_slice(word.as_bytes()),
+        let line = line.split('#').next().unwrap_or("").trim_end();
+        if line.is_empty() {
+            continue;
+        }
+        let mut words = Vec::new();
+        for word in line.split(' ') {
+            let (word, times) = match word.split_once('*') {
+                Some((word, times)) => (word, times.parse().expect("a number of times")),
+                None => (word, 1),
+            };
+            for _ in 0..times {
+                words.push(strict(word));
             }
         }
-        lines.push(out);
+        lines.push(words.join(&b' '));
     }
     lines
+}
+
+/// A word as a script has it.
+fn strict(word: &str) -> Vec<u8> {
+    let decimal = word.contains('.') || ["nan", "inf", "-inf"].contains(&word);
+    let mut out = Vec::new();
+    match word.parse() {
+        Ok(x) if decimal => floats::write(&mut out, x),
+        _ => out.extend_from_slice(word.as_bytes()),
+    }
+    out
 }

@@ -25,6 +25,25 @@ impl Tally {
         self.counts.get(name).copied().unwrap_or(0)
     }
 
+    /// The names of all that was counted.
+    pub fn names(&self) -> Vec<String> {
+        let counted = self.counts.keys().map(|name| name.to_string());
+        let refused = (1..19).filter(|&number| self.refusals[number] > 0);
+        counted
+            .chain(refused.map(|number| format!("refused {number}")))
+            .collect()
+    }
+
+    /// Adds the counts of another.
+    pub fn join(&mut self, other: &Tally) {
+        for (name, count) in &other.counts {
+            self.add_many(name, *count);
+        }
+        for (mine, theirs) in self.refusals.iter_mut().zip(other.refusals) {
+            *mine += theirs;
+        }
+    }
+
     /// All counts, one on a line.
     pub fn lines(&self) -> String {
         let mut text = String::new();

@@ -39,6 +39,8 @@ pub struct Plan {
     pub base: Base,
     pub edge: usize,
     pub odd: usize,
+    /// The same for the mappings and sets of the loop.
+    pub odd_mapping: usize,
     pub plain: usize,
     pub disturbed: usize,
     pub fails: usize,
@@ -62,6 +64,7 @@ impl Plan {
             base,
             edge: random.pick(&[0, 0, 300, 600, 900]),
             odd: random.pick(&[0, 0, 0, 20, 100]),
+            odd_mapping: random.pick(&[0, 0, 0, 0, 0, 200]),
             plain: random.pick(&[0, 100, 300]),
             disturbed: random.pick(&[0, 0, 0, 30, 200]),
             fails: random.pick(&[0, 0, 0, 0, 30]),
@@ -70,6 +73,26 @@ impl Plan {
         }
     }
 }
+
+impl Plan {
+    /// Answers by a base and nothing else.
+    fn only(base: Base) -> Plan {
+        Plan {
+            base,
+            edge: 0,
+            odd: 0,
+            odd_mapping: 0,
+            plain: 0,
+            disturbed: 0,
+            fails: 0,
+            left: 0,
+            no: 0,
+        }
+    }
+}
+
+/// Other runs are failed after so many answers.
+const LONGEST: usize = 20_000;
 
 /// Answers as a plan says.
 pub struct Generator {
@@ -83,6 +106,9 @@ pub struct Generator {
     /// The lent places can be shown after the end.
     show: bool,
     on_edge: bool,
+    answers: usize,
+    /// The run may have as many answers as it wants.
+    endless: bool,
 }
 
 impl Generator {
@@ -98,6 +124,8 @@ impl Generator {
             closed: false,
             show: start.call != Call::DPsi || start.n <= 128,
             on_edge: false,
+            answers: 0,
+            endless: start.m == 10_000 || start.k == 1_000,
         }
     }
 
@@ -112,7 +140,9 @@ impl Generator {
                 Line::Yes
             };
         }
-        if asked.kind != Kind::Direction && random.chance(plan.fails) {
+        self.answers += 1;
+        let too_long = self.answers > LONGEST && !self.endless;
+        if asked.kind != Kind::Direction && (too_long || random.chance(plan.fails)) {
             return Line::Failure(random.pick(&[0, 1, 7, u32::MAX, 1 << 31]));
         }
         match (self.hold, asked.kind) {
@@ -142,7 +172,16 @@ impl Generator {
             Wants::Number => Line::Number(self.number(asked, shadow)),
             Wants::Vector(n) => {
                 let mut v = self.vector(asked, shadow, n);
-                if self.random.chance(self.plan.odd) && n > 0 {
+                let of_loop = matches!(
+                    asked.kind,
+                    Kind::F1 | Kind::F2 | Kind::ProjectC | Kind::ProjectY
+                );
+                let odd = if of_loop {
+                    self.plan.odd.max(self.plan.odd_mapping)
+                } else {
+                    self.plan.odd
+                };
+                if self.random.chance(odd) {
                     let i = self.random.below(n);
                     v[i] = values::odd(&mut self.random);
                 }
@@ -253,12 +292,18 @@ impl Source for Generator {
         Said::Line(self.answer(asked, shadow, tally))
     }
 
-    fn ended(&mut self, _: &Tape) -> Said {
+    fn ended(&mut self, tape: &Tape) -> Said {
         if !self.closed {
             self.closed = true;
             self.queue.clear();
             let disturbed = self.plan.disturbed > 0;
-            noise::after_end(&mut self.random, self.show, disturbed, &mut self.queue);
+            noise::after_end(
+                &mut self.random,
+                tape,
+                self.show,
+                disturbed,
+                &mut self.queue,
+            );
         }
         self.queue.pop_front().unwrap_or(Said::Leave)
     }
@@ -292,16 +337,29 @@ pub fn run(seed: u64, index: u64, mix: &Mix, tape: Tape, mut tally: Tally) -> (T
     let mut random = Random::new(seed, index);
     let call = mix.pick(&mut random);
     let mut plan = Plan::new(&mut random);
-    let start = if random.chance(30) {
-        plan.disturbed = 1000;
-        starts::refused(&mut random, call)
-    } else if random.chance(2) {
-        plan.edge = plan.edge.min(300);
-        tally.add("runs that may be long");
-        starts::accepted(&mut random, call, starts::Length::Long)
-    } else {
-        starts::accepted(&mut random, call, starts::Length::Short)
+    let start = match random.below(1000) {
+        0..=29 => {
+            plan.disturbed = 1000;
+            starts::refused(&mut random, call)
+        }
+        30 | 31 => {
+            tally.add("runs that may be long");
+            starts::accepted(&mut random, call, starts::Length::Long)
+        }
+        32..=35 if call == Call::Loop => starts::outside(&mut random),
+        _ if index % 100_000 == 77_777 => {
+            tally.add("runs of all iterations");
+            plan = Plan::only(Base::Plain);
+            starts::marathon(&mut random)
+        }
+        _ => starts::accepted(&mut random, call, starts::Length::Short),
     };
     let source = Generator::new(random, plan, &start);
     play::play(&start, Box::new(source), tape, tally)
+}
+
+/// Appends a run whose every test fails.
+pub fn spend(random: Random, start: &Start, tape: Tape, tally: Tally) -> (Tape, Tally) {
+    let source = Generator::new(random, Plan::only(Base::Spend), start);
+    play::play(start, Box::new(source), tape, tally)
 }

@@ -92,12 +92,24 @@ fn answer(random: &mut Random) -> Line {
 }
 
 /// The calls after an end: the lent places, answers that come too late, the lent places again.
-pub fn after_end(random: &mut Random, show: bool, disturbed: bool, queue: &mut VecDeque<Said>) {
+pub fn after_end(
+    random: &mut Random,
+    tape: &Tape,
+    show: bool,
+    disturbed: bool,
+    queue: &mut VecDeque<Said>,
+) {
     if show {
         queue.push_back(Said::Line(Line::Show));
     }
     if !disturbed {
         return;
+    }
+    // the end comes before the lengths
+    let (u, xi) = tape.lengths();
+    let lends = show && random.chance(200) && tape.call != Some(Call::Psi);
+    if lends {
+        queue.push_back(Said::Line(Line::Lend(u + 1, xi)));
     }
     for _ in 0..1 + random.below(2) {
         let line = match random.below(5) {
@@ -105,6 +117,9 @@ pub fn after_end(random: &mut Random, show: bool, disturbed: bool, queue: &mut V
             _ => answer(random),
         };
         queue.push_back(Said::Line(line));
+    }
+    if lends {
+        queue.push_back(Said::Line(Line::Lend(u, xi)));
     }
     if show {
         queue.push_back(Said::Line(Line::Show));

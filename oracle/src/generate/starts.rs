@@ -23,21 +23,73 @@ pub fn accepted(random: &mut Random, call: Call, length: Length) -> Start {
     }
 }
 
-/// A start that the table refuses: an accepted one with one or two things wrong.
+/// A start that the table refuses: an accepted one with a thing wrong, and at times another of a higher number.
 pub fn refused(random: &mut Random, call: Call) -> Start {
+    let numbers: &[u8] = match call {
+        Call::Inner => &[1, 3, 4],
+        Call::Loop => &[1, 2, 3, 4, 5],
+        Call::Psi | Call::DPsi => &[1, 2],
+    };
+    let number = random.pick(numbers);
     loop {
-        let mut start = any(random, call, Length::Short);
-        for _ in 0..1 + random.below(2) {
-            spoil(random, &mut start);
+        let mut start = accepted(random, call, Length::Short);
+        if random.chance(300) {
+            let higher = random.pick(numbers).max(number);
+            spoil(random, &mut start, higher);
         }
-        if call == Call::Inner {
-            start.xi.clear();
-        }
-        start.set_y = start.set_y && call == Call::Loop;
-        if table::start(&start).is_some() {
+        spoil(random, &mut start, number);
+        if table::start(&start) == Some(number) {
             return start;
         }
     }
+}
+
+/// An accepted start that the Rust's builders refuse.
+pub fn outside(random: &mut Random) -> Start {
+    let spacing = f64::EPSILON;
+    let mut start = accepted(random, Call::Loop, Length::Short);
+    let fractions = [spacing, 5e-324, 1.0 - spacing, 1.0 - spacing / 2.0];
+    match random.below(5) {
+        0 => start.penalty_factor = random.pick(&[1.0, 1.0 + spacing]),
+        1 => start.epsilon_factor = random.pick(&fractions),
+        2 => start.coefficient = random.pick(&fractions),
+        3 => start.akkt = Some(random.pick(&[5e-324, floats::step(start.epsilon, -1)])),
+        _ => {
+            if let Some(c) = start.xi.first_mut() {
+                *c = random.pick(&[spacing, 1e-300, 5e-324]);
+            }
+        }
+    }
+    start
+}
+
+/// A start whose run goes on for long: all iterations of an inner solve, or of the loop.
+pub fn marathon(random: &mut Random) -> Start {
+    let mut start = accepted(random, Call::Loop, Length::Short);
+    start.n1 = start.n1.min(3);
+    start.n2 = start.n2.min(3);
+    let places = if start.n1 + start.n2 > 0 {
+        start.n1 + 1
+    } else {
+        0
+    };
+    start.xi = vec![1.0; places as usize];
+    start.set_y = false;
+    start.u.truncate(2);
+    start.n = start.u.len() as u64;
+    start.tolerance = 1e-300;
+    if random.chance(500) {
+        start.call = Call::Inner;
+        start.xi.clear();
+        start.m = 10_000;
+        start.akkt = None;
+    } else {
+        start.k = 1_000;
+        start.m = 1;
+        start.delta = 1e-300;
+        start.penalty_factor = 1.0 + 4.0 * f64::EPSILON;
+    }
+    start
 }
 
 fn any(random: &mut Random, call: Call, length: Length) -> Start {
@@ -194,66 +246,70 @@ fn fraction(random: &mut Random) -> f64 {
     }
 }
 
-/// Makes one thing of a start wrong, or nearly so.
-fn spoil(random: &mut Random, start: &mut Start) {
+/// Makes one thing of a start wrong that a number of the table is about.
+fn spoil(random: &mut Random, start: &mut Start, number: u8) {
     let above_all = random.pick(&[u64::MAX, 1 << 32, 10_001, 66]);
-    let wrong_positive = random.pick(&[
+    let not_above_0 = random.pick(&[
         0.0,
         -0.0,
         -1.0,
+        -5e-324,
         f64::NAN,
         f64::INFINITY,
         f64::NEG_INFINITY,
-        -5e-324,
     ]);
-    let wrong_fraction = random.pick(&[0.0, -0.0, 1.0, 1.5, -0.5, f64::NAN, f64::INFINITY]);
-    match random.below(19) {
-        0 => start.n = random.pick(&[0, 65, above_all]),
-        1 => start.n = start.n.wrapping_add(random.pick(&[1, u64::MAX])),
-        2 => start.u.push(0.0),
-        3 => {
-            start.u.pop();
-        }
-        4 => {
-            start.n = random.pick(&[65, 0]);
-            start.u = vec![0.5; start.n as usize];
-        }
-        5 => start.n1 = random.pick(&[33, above_all]),
-        6 => start.n2 = random.pick(&[33, above_all]),
-        7 => start.xi.push(1.0),
-        8 => {
-            start.xi.pop();
-        }
-        9 => {
-            start.set_y = true;
-            start.n1 = 0;
-            start.xi.truncate(1);
-        }
-        10 => {
-            start.n1 = 33;
-            start.xi = vec![1.0; 34];
-        }
-        11 => start.m = random.pick(&[0, 10_001, above_all]),
-        12 => start.k = random.pick(&[0, 1_001, above_all]),
-        13 => start.tolerance = wrong_positive,
-        14 => start.akkt = Some(wrong_positive),
-        15 => match random.below(2) {
-            0 => start.epsilon = wrong_positive,
-            _ => start.delta = wrong_positive,
+    let not_between = random.pick(&[0.0, -0.0, 1.0, 1.5, -0.5, f64::NAN, f64::INFINITY]);
+    match number {
+        1 => match random.below(5) {
+            0 => start.n = random.pick(&[0, 65, above_all]),
+            1 => start.n = start.n.wrapping_add(random.pick(&[1, u64::MAX])),
+            2 => start.u.push(0.0),
+            3 => {
+                start.u.pop();
+            }
+            _ => {
+                start.n = random.pick(&[0, 65]);
+                start.u = vec![0.5; start.n as usize];
+            }
         },
-        16 => {
-            start.penalty_factor =
-                random.pick(&[floats::step(1.0, -1), 0.0, -2.0, f64::NAN, f64::INFINITY])
-        }
-        17 => match random.below(2) {
-            0 => start.epsilon_factor = wrong_fraction,
-            _ => start.coefficient = wrong_fraction,
+        2 => match random.below(6) {
+            0 => start.n1 = random.pick(&[33, above_all]),
+            1 => start.n2 = random.pick(&[33, above_all]),
+            2 => start.xi.push(1.0),
+            3 => {
+                start.xi.pop();
+            }
+            4 => {
+                start.n1 = 33;
+                start.xi = vec![1.0; 34];
+            }
+            _ => {
+                start.set_y = start.call == Call::Loop;
+                start.n1 = 0;
+                start.xi.truncate(start.n2.min(1) as usize);
+            }
+        },
+        3 => match random.below(2) {
+            0 => start.m = random.pick(&[0, 10_001, above_all.max(10_001)]),
+            _ => start.k = random.pick(&[0, 1_001, above_all.max(1_001)]),
+        },
+        4 => match random.below(7) {
+            0 => start.tolerance = not_above_0,
+            1 => start.akkt = Some(not_above_0),
+            2 => start.epsilon = not_above_0,
+            3 => start.delta = not_above_0,
+            4 => start.epsilon_factor = not_between,
+            5 => start.coefficient = not_between,
+            _ => {
+                let below_1 = floats::step(1.0, -1);
+                start.penalty_factor = random.pick(&[below_1, 0.0, -2.0, f64::NAN, f64::INFINITY]);
+            }
         },
         _ => {
             if !start.xi.is_empty() {
                 let i = random.below(start.xi.len());
                 start.xi[i] = if i == 0 {
-                    wrong_positive
+                    not_above_0
                 } else {
                     values::not_finite(random)
                 };
