@@ -1,0 +1,1 @@
+//! Stands in for another algorithm, which no run here uses.
