@@ -12,7 +12,7 @@ use lib.Seq.{drop-set-lt, drop-drop, getD-drop}
 use lib.Ieee.{Float, nan, Format, add, sub, mul, div, lt, ofBits}
 use lib.Ieee.Scale.{finite}
 use Rattle.ieee.specs.Numbers.{null}
-use Rattle.ieee.specs.Values.{zero-bits}
+use Rattle.ieee.specs.Special.{zero-bits}
 use Rattle.ieee.specs.Root.{root}
 use Rattle.ieee.specs.Sums.{squaresFrom, squares, norm}
 use Rattle.model.specs.Constants.{epsilonLipschitz, deltaLipschitz}
