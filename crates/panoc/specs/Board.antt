@@ -1,0 +1,165 @@
+-- A run in place: its small part by value, and its vectors where they are lent. Definitions only.
+use Prim.Native.Nat.{ℕ}
+use mathlib.Core.Path.{_≡_}
+use mathlib.Core.List.{List}
+use denote.Ref.{RefT}
+use denote.Triple.Both.{Both}
+use mathlib.Core.Bool.{true}
+use lib.Ieee.{Float, binary64}
+use Rattle.matrix_operations.specs.Firsts.{firsts}
+use Rattle.model.specs.Process as M
+use Rattle.model.specs.State as S
+use Rattle.model.specs.Inner as I
+use Rattle.model.specs.Refusals.{accept, remains, lentAfter, planOf}
+use Rattle.panoc.specs.declared.panoc_cache.Phase.{Phase}
+use Rattle.panoc.specs.declared.panoc_cache.ExitStatus.{ExitStatus}
+use Rattle.panoc.specs.declared.panoc_cache.Settings.{Settings}
+use Rattle.panoc.specs.declared.panoc_cache.Numbers.{Numbers}
+use Rattle.panoc.specs.declared.panoc_cache.Outcome.{Outcome}
+use Rattle.panoc.specs.declared.panoc_cache.Outcome.the-variants.{Asked, Ended, Refused, Failed}
+use Rattle.panoc.specs.declared.panoc_cache.Reply.{Reply}
+use Rattle.panoc.specs.declared.panoc_cache.Run.{Run}
+use Rattle.panoc.specs.declared.panoc_cache.Solve.{Solve}
+use Rattle.panoc.specs.declared.panoc_cache.Stepped.{Stepped}
+use Rattle.panoc.specs.declared.panoc_cache.Answered.{Answered}
+use Rattle.panoc.specs.Values.{settingsOf, statusOf, replyOf, said}
+use Rattle.panoc.specs.Rest.{rest, sound, iterateOf, stateOf}
+
+-- the vectors, in the order of the run's fields
+pub record Board : Type 0 where
+  pub u : List Float
+  pub plus : List Float
+  pub gradient : List Float
+  pub previous : List Float
+  pub step : List Float
+  pub half : List Float
+  pub fpr : List Float
+  pub direction : List Float
+  pub best : List Float
+
+abbrev pub runOf : Solve → Board → Run
+runOf s b =
+    record {
+      solve = s;
+      u = b .u;
+      «u_plus» = b .plus;
+      «gradient_u» = b .gradient;
+      «gradient_u_previous» = b .previous;
+      «gradient_step» = b .step;
+      «u_half_step» = b .half;
+      «gamma_fpr» = b .fpr;
+      «direction_lbfgs» = b .direction;
+      «best_u_half_step» = b .best
+    }
+
+abbrev pub gave : Stepped → Board → Answered
+gave r b = record { outcome = r .outcome; run = runOf (r .solve) b }
+
+-- a lent array, as a contract sees it
+abbrev pub Lent : Type 0
+Lent = Both (RefT (List Float)) (RefT (List Float))
+
+abbrev pub before : Lent → Lent → Lent → Lent → Lent → Lent → Lent → Lent → Lent → Board
+before u w g p t h r d b =
+    record { u = u .entry .now; plus = w .entry .now; gradient = g .entry .now; previous = p .entry .now; step = t .entry .now; half = h .entry .now; fpr = r .entry .now; direction = d .entry .now; best = b .entry .now }
+
+abbrev pub after : Lent → Lent → Lent → Lent → Lent → Lent → Lent → Lent → Lent → Board
+after u w g p t h r d b =
+    record { u = u .exit .now; plus = w .exit .now; gradient = g .exit .now; previous = p .exit .now; step = t .exit .now; half = h .exit .now; fpr = r .exit .now; direction = d .exit .now; best = b .exit .now }
+
+-- the board with one vector replaced, for a call that is lent some alone
+abbrev pub setU : List Float → Board → Board
+setU x b = record { u = x; plus = b .plus; gradient = b .gradient; previous = b .previous; step = b .step; half = b .half; fpr = b .fpr; direction = b .direction; best = b .best }
+
+abbrev pub setPlus : List Float → Board → Board
+setPlus x b = record { u = b .u; plus = x; gradient = b .gradient; previous = b .previous; step = b .step; half = b .half; fpr = b .fpr; direction = b .direction; best = b .best }
+
+abbrev pub setGradient : List Float → Board → Board
+setGradient x b = record { u = b .u; plus = b .plus; gradient = x; previous = b .previous; step = b .step; half = b .half; fpr = b .fpr; direction = b .direction; best = b .best }
+
+abbrev pub setPrevious : List Float → Board → Board
+setPrevious x b = record { u = b .u; plus = b .plus; gradient = b .gradient; previous = x; step = b .step; half = b .half; fpr = b .fpr; direction = b .direction; best = b .best }
+
+abbrev pub setStep : List Float → Board → Board
+setStep x b = record { u = b .u; plus = b .plus; gradient = b .gradient; previous = b .previous; step = x; half = b .half; fpr = b .fpr; direction = b .direction; best = b .best }
+
+abbrev pub setHalf : List Float → Board → Board
+setHalf x b = record { u = b .u; plus = b .plus; gradient = b .gradient; previous = b .previous; step = b .step; half = x; fpr = b .fpr; direction = b .direction; best = b .best }
+
+abbrev pub setFpr : List Float → Board → Board
+setFpr x b = record { u = b .u; plus = b .plus; gradient = b .gradient; previous = b .previous; step = b .step; half = b .half; fpr = x; direction = b .direction; best = b .best }
+
+abbrev pub setDirection : List Float → Board → Board
+setDirection x b = record { u = b .u; plus = b .plus; gradient = b .gradient; previous = b .previous; step = b .step; half = b .half; fpr = b .fpr; direction = x; best = b .best }
+
+abbrev pub setBest : List Float → Board → Board
+setBest x b = record { u = b .u; plus = b .plus; gradient = b .gradient; previous = b .previous; step = b .step; half = b .half; fpr = b .fpr; direction = b .direction; best = x }
+
+-- the vectors of a step: u, gradient, previous gradient, half step, residual and best half step
+abbrev pub six : List Float → List Float → List Float → List Float → List Float → List Float → Board → Board
+six u g p h r x b = record { u = u; plus = b .plus; gradient = g; previous = p; step = b .step; half = h; fpr = r; direction = b .direction; best = x }
+
+-- the vectors of a move: u, candidate, gradient, gradient step, half step, residual and direction
+abbrev pub seven : List Float → List Float → List Float → List Float → List Float → List Float → List Float → Board → Board
+seven u w g t h r d b = record { u = u; plus = w; gradient = g; previous = b .previous; step = t; half = h; fpr = r; direction = d; best = b .best }
+
+-- all vectors
+abbrev pub nine : List Float → List Float → List Float → List Float → List Float → List Float → List Float → List Float → List Float → Board
+nine u w g p t h r d b = record { u = u; plus = w; gradient = g; previous = p; step = t; half = h; fpr = r; direction = d; best = b }
+
+-- ---- what a call in place comes to; a plan lies in the best half step, and nothing lent is written yet
+unfoldable pub given : Outcome → List Float → List Float → List Float
+given (Asked q) best us = us
+given (Ended st) best us = best
+given (Refused k) best us = us
+given (Failed c) best us = us
+
+pub record Comes (s : Settings) (p : M.Solve) (r : Stepped) (b : Board) : Type 0 where
+  pub settings : r .solve .set ≡ s
+  pub outcome : r .outcome ≡ said p
+  pub process : rest (runOf (r .solve) b) ≡ remains p
+  pub plan : (us : List Float) → lentAfter planOf p us ≡ given (r .outcome) (firsts (s .n) (b .best)) us
+
+-- an answer that nothing refuses
+abbrev pub Takes : Solve → Board → Reply → List Float → Stepped → Board → Type 0
+Takes s b a v r b′ = Comes (s .set) (accept (rest (runOf s b)) (replyOf a) v) r b′
+
+-- ---- the small part with some of it replaced
+abbrev pub withNumbers : Numbers → Solve → Solve
+withNumbers x s = record { phase = s .phase; set = s .set; numbers = x; left = s .left; iterations = s .iterations; status = s .status; rounds = s .rounds; forget = s .forget }
+
+abbrev pub atPhase : Phase → Solve → Solve
+atPhase p s = record { phase = p; set = s .set; numbers = s .numbers; left = s .left; iterations = s .iterations; status = s .status; rounds = s .rounds; forget = s .forget }
+
+abbrev pub withStatus : ExitStatus → Solve → Solve
+withStatus e s = record { phase = s .phase; set = s .set; numbers = s .numbers; left = s .left; iterations = s .iterations; status = e; rounds = s .rounds; forget = s .forget }
+
+abbrev pub stepped : Outcome → Phase → Solve → Stepped
+stepped o p s = record { outcome = o; solve = atPhase p s }
+
+-- ---- what stands in the process of a run in place
+abbrev pub setOf : Solve → S.Settings
+setOf s = settingsOf (s .set)
+
+-- the end that stands for the present step
+abbrev pub endOf : Solve → M.Status
+endOf s = statusOf (s .status)
+
+abbrev pub nextAt : Solve → I.Next
+nextAt s = I.laps binary64 (settingsOf (s .set)) (s .left)
+
+abbrev pub iterateAt : Solve → Board → S.Iterate
+iterateAt s b = iterateOf (runOf s b)
+
+abbrev pub stateAt : Solve → Board → S.State
+stateAt s b = stateOf (runOf s b)
+
+-- a run that a start made
+abbrev pub Sound : Solve → Type 0
+Sound s = sound s ≡ true
+
+-- the best half step in an array, and its norm
+abbrev pub bestAt : ℕ → List Float → Float → S.Best
+bestAt n a x = record { point = firsts n a; norm = x }
+
+

@@ -1,0 +1,4 @@
+pub mod Values
+pub mod Rest
+pub mod Calls
+pub mod Board
