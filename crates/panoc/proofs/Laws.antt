@@ -221,7 +221,7 @@ module _ (s : Solve) (b : Board) (ok : Sound s) (r : Stepped) where
         settings = refl;
         outcome = ap (λ (z : ExitStatus). O.Ended (record { «exit_status» = z; iterations = s .iterations; «norm_fpr» = s .numbers .«best_norm_gamma_fpr»; «cost_value» = x })) (status-there (s .status));
         process = rest-over _ refl;
-        plan = λ us. refl
+        plan = λ us. refl;
       }))
 
   pub last-stops : (x : Float) → s .phase ≡ P.LastCost → finite x ≡ false → r ≡ stepped (O.Refused 16) P.Over s → Takes s b (Number x) [] r b

@@ -49,7 +49,7 @@ runOf s b =
       «u_half_step» = b .half;
       «gamma_fpr» = b .fpr;
       «direction_lbfgs» = b .direction;
-      «best_u_half_step» = b .best
+      «best_u_half_step» = b .best;
     }
 
 abbrev pub gave : Stepped → Board → Answered
@@ -161,5 +161,3 @@ Sound s = sound s ≡ true
 -- the best half step in an array, and its norm
 abbrev pub bestAt : ℕ → List Float → Float → S.Best
 bestAt n a x = record { point = firsts n a; norm = x }
-
-

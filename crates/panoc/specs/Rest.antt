@@ -28,7 +28,7 @@ openingOf r =
       gradientStep = vectorOf r (r .«gradient_step»);
       lipschitz = r .solve .numbers .«lipschitz_constant»;
       gamma = r .solve .numbers .gamma;
-      sigma = r .solve .numbers .sigma
+      sigma = r .solve .numbers .sigma;
     }
 
 -- where the solve stands
@@ -45,7 +45,7 @@ iterateOf r =
       sigma = r .solve .numbers .sigma;
       cost = r .solve .numbers .«cost_value»;
       best = record { point = vectorOf r (r .«best_u_half_step»); norm = r .solve .numbers .«best_norm_gamma_fpr» };
-      count = r .solve .iterations .0
+      count = r .solve .iterations .0;
     }
 
 abbrev pub stateOf : Run → State

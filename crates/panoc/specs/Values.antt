@@ -17,6 +17,9 @@ use Rattle.panoc.specs.declared.panoc_cache.Question.{Question}
 use Rattle.panoc.specs.declared.panoc_cache.Question.the-variants.{Cost, Gradient, Project, Direction, Time}
 use Rattle.panoc.specs.declared.panoc_cache.Reply.{Reply}
 use Rattle.panoc.specs.declared.panoc_cache.Reply.the-variants.{Number, Vector, Yes, No, Failure}
+use Rattle.panoc.specs.declared.refusals.Wanted.{Wanted}
+use Rattle.panoc.specs.declared.refusals.Wanted.the-variants.{Nothing, Decision}
+use Rattle.panoc.specs.declared.refusals.Wanted.the-variants as Wanted
 use Rattle.panoc.specs.declared.panoc_cache.Outcome.{Outcome}
 use Rattle.panoc.specs.declared.panoc_cache.Outcome.the-variants.{Asked, Ended, Refused, Failed}
 
@@ -47,6 +50,14 @@ replyOf Vector = R.Reply.vector
 replyOf Yes = R.Reply.yes
 replyOf No = R.Reply.no
 replyOf (Failure c) = R.Reply.failure c
+
+-- what a run waits for; none once it has ended
+abbrev pub kindOf : Wanted → Option Kind
+kindOf Nothing = none
+kindOf Wanted.Number = some Kind.number
+kindOf (Wanted.Vector n) = some (Kind.vector n)
+kindOf (Wanted.Direction n) = some (Kind.direction n)
+kindOf Decision = some Kind.decision
 
 -- a question, less its points
 abbrev pub questionOf : M.Question → Question

@@ -204,7 +204,12 @@ pub fn with_status(s: Solve, status: ExitStatus) -> Solve
 }
 
 // Keeps the previous gradient if at least one step is done.
-pub fn cache_previous_gradient(done: usize, gradient: &[f64; 64], previous: &mut [f64; 64], n: usize)
+pub fn cache_previous_gradient(
+    done: usize,
+    gradient: &[f64; 64],
+    previous: &mut [f64; 64],
+    n: usize,
+)
     requires { ⌜ n ≤ 64 ⌝ }
     ensures { λ _. ⌜ firsts n (now (previous .exit)) ≡ cond (eqb done 0) (firsts n (now (previous .entry))) (firsts n (now (gradient .entry))) ⌝ }
 {
@@ -215,7 +220,13 @@ pub fn cache_previous_gradient(done: usize, gradient: &[f64; 64], previous: &mut
 }
 
 // Scores the half step, of this norm, and gives the least norm: it is kept only if its norm is strictly less than the least so far.
-pub fn cache_best_half_step(norm: f64, least: f64, half: &[f64; 64], best: &mut [f64; 64], n: usize) -> f64
+pub fn cache_best_half_step(
+    norm: f64,
+    least: f64,
+    half: &[f64; 64],
+    best: &mut [f64; 64],
+    n: usize,
+) -> f64
     requires { ⌜ n ≤ 64 ⌝ }
     ensures { λ r. ⌜ bestAt n (now (best .exit)) r ≡ keep (bestAt n (now (best .entry)) least) (firsts n (now (half .entry))) norm ⌝ }
 {
