@@ -1,0 +1,20 @@
+-- The words of a line, one space apart. Definitions only.
+use Prim.Native.Nat.{ℕ}
+use mathlib.Core.Bool.{cond}
+use mathlib.Core.List.{List, [], _∷_}
+use lib.Dec.{eqb}
+
+-- the bytes before the first space
+unfoldable pub firstWord : List ℕ → List ℕ
+firstWord [] = []
+firstWord (c ∷ l) = cond (eqb c 32) [] (c ∷ firstWord l)
+
+-- a byte in front of the first word
+unfoldable pub onto : ℕ → List (List ℕ) → List (List ℕ)
+onto c [] = (c ∷ []) ∷ []
+onto c (w ∷ ws) = (c ∷ w) ∷ ws
+
+-- every line has a word; a word may be empty
+unfoldable pub wordsOf : List ℕ → List (List ℕ)
+wordsOf [] = [] ∷ []
+wordsOf (c ∷ l) = cond (eqb c 32) ([] ∷ wordsOf l) (onto c (wordsOf l))
