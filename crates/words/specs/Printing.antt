@@ -1,6 +1,6 @@
 -- What is printed: TRANSCRIPT.md, "Words". Definitions only.
 use Prim.Native.Nat.{ℕ, _+_}
-use mathlib.Core.List.{List, _++_}
+use mathlib.Core.List.{List, [], _∷_, _++_}
 use lib.ListN.{length, take, drop}
 use lib.Ieee.{Float, binary64, toBits}
 use Rattle.words.specs.Digits.{digits, placesIn}
@@ -8,6 +8,11 @@ use Rattle.words.specs.Digits.{digits, placesIn}
 -- a float's bits as 16 hexadecimal digits; `toBits` gives nan the pattern 7ff8000000000000
 unfoldable pub floatWord : Float → List ℕ
 floatWord x = digits 16 16 (toBits binary64 x)
+
+-- floats, each with a space before it
+unfoldable pub floatsText : List Float → List ℕ
+floatsText [] = []
+floatsText (x ∷ xs) = (32 ∷ floatWord x) ++ floatsText xs
 
 -- a whole number below 2 ^ 64 in decimal
 unfoldable pub wholeWord : ℕ → List ℕ

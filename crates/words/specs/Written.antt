@@ -1,14 +1,15 @@
 -- Laws for what stands in a buffer, and for loops that print a number from its last digit on. Assumes nothing.
 use mathlib.Core.Path.{_≡_, refl, sym, ap, _∙_, subst}
 use mathlib.Core.List.{List, [], _∷_, _++_, append-assoc, append-nil}
-use Prim.Native.Nat.{ℕ, zero, suc, _+_, _-_, _/_, _%_, _≤_, _<_}
+use Prim.Native.Nat.{ℕ, zero, suc, _+_, _-_, _*_, _/_, _%_, _≤_, _<_}
 use native.Mathlib.Nat.{add-zero, add-suc, add-assoc}
 use native.Mathlib.Numerals.{add-one}
 use native.Mathlib.Omega.{arith}
-use lib.ListN.{length, take, drop, set, length-append, length-drop, take-append-drop, length-set}
-use lib.Seq.{length-take-le, take-length, take-at, drop-at, take-suc-set, set-append-left, append-snoc, drop-drop, paste}
+use lib.ListN.{length, getD, take, drop, set, length-append, length-drop, take-append-drop, length-set}
+use lib.Seq.{length-take-le, take-length, take-at, drop-at, take-suc-set, set-append-left, append-snoc, set-split, take-suc, drop-drop, paste}
 use Rattle.words.specs.Digits.{glyph, digits}
-use Rattle.words.specs.Printing.{written}
+use lib.Ieee.{Float, nan, binary64, toBits}
+use Rattle.words.specs.Printing.{floatWord, floatsText, written}
 
 pub written-none : (out : List ℕ) (at : ℕ) → written out at [] ≡ out
 unfolding written
@@ -56,6 +57,11 @@ written-both out at v w h =
         ∙ drop-drop (length w) (at + length v) out
         ∙ ap (λ (k : ℕ). drop k out) same
 
+-- one byte
+pub written-one : (out : List ℕ) (at g : ℕ) → at < length out → set out at g ≡ written out at (g ∷ [])
+unfolding written
+written-one out at g h = set-split out at g h ∙ sym (append-snoc (take at out) g (drop (suc at) out)) ∙ ap (λ (k : ℕ). take at out ++ (g ∷ []) ++ drop k out) (sym (add-one at))
+
 -- ---- printing from the last digit on
 pub length-digits : (b k n : ℕ) → length (digits b k n) ≡ k
 unfolding digits
@@ -92,3 +98,37 @@ spelt-all b k w out₀ at out rest (suc i) z s = absurd (omega arith)
 
 pub spelt-length : (b k : ℕ) (w out₀ : List ℕ) (at : ℕ) (out : List ℕ) (rest i : ℕ) → at + k ≤ length out₀ → Spelt b k w out₀ at out rest i → length out ≡ length out₀
 spelt-length b k w out₀ at out rest i h s = ap length (s .stands) ∙ written-length out₀ (at + i) (s .tail) (omega (arith, s .size))
+
+-- ---- floats, one behind the other
+pub length-float : (x : Float) → length (floatWord x) ≡ 16
+unfolding floatWord
+length-float x = length-digits 16 16 (toBits binary64 x)
+
+pub length-floats : (xs : List Float) → length (floatsText xs) ≡ 17 * length xs
+unfolding floatsText
+length-floats [] = refl
+length-floats (x ∷ xs) = length-append (32 ∷ floatWord x) (floatsText xs) ∙ omega (arith, length-float x, length-floats xs)
+
+floats-more : (xs : List Float) (x : Float) → floatsText (xs ++ (x ∷ [])) ≡ floatsText xs ++ (32 ∷ floatWord x)
+unfolding floatsText
+floats-more [] x = append-nil (32 ∷ floatWord x)
+floats-more (y ∷ xs) x = ap (λ (r : List ℕ). (32 ∷ floatWord y) ++ r) (floats-more xs x) ∙ sym (append-assoc (32 ∷ floatWord y) (floatsText xs) (32 ∷ floatWord x))
+
+pub floats-none : (out : List ℕ) (at : ℕ) → out ≡ written out at (floatsText [])
+unfolding floatsText
+floats-none out at = sym (written-none out at)
+
+-- a turn: a space at o, and the float i behind it
+pub floats-turn : (xs : List Float) (i : ℕ) (out₀ : List ℕ) (at : ℕ) (out : List ℕ) (o : ℕ) (out′ : List ℕ) → i < length xs → at + 17 * length xs ≤ length out₀ → o ≡ at + 17 * i → out ≡ written out₀ at (floatsText (take i xs)) → out′ ≡ written (set out o 32) (o + 1) (floatWord (getD xs i nan)) → out′ ≡ written out₀ at (floatsText (take (i + 1) xs))
+floats-turn xs i out₀ at out o out′ h room p e q =
+    let x = getD xs i nan in
+    let t = floatsText (take i xs) in
+    let n : length t ≡ 17 * i = length-floats (take i xs) ∙ ap (λ (k : ℕ). 17 * k) (length-take-le i xs (omega arith)) in
+    let k : o ≡ at + length t = omega arith in
+    let size : length out ≡ length out₀ = ap length e ∙ written-length out₀ at t (omega arith) in
+    let word : length (floatWord x) ≡ 16 = length-float x in
+    q
+    ∙ ap (λ (l : List ℕ). written l (o + 1) (floatWord x)) (written-one out o 32 (omega arith))
+    ∙ written-both out o (32 ∷ []) (floatWord x) (omega arith)
+    ∙ rw (e, k) (written-both out₀ at t (32 ∷ floatWord x) (omega arith))
+    ∙ ap (written out₀ at) (sym (floats-more (take i xs) x) ∙ ap floatsText (sym (take-suc xs i nan h) ∙ ap (λ (j : ℕ). take j xs) (sym (add-one i))))

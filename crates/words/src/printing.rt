@@ -1,11 +1,11 @@
 // What is printed, into a lent buffer at a place: floats, whole numbers, words. Each call gives the place behind what it put.
 ghost use mathlib.Core.Path.{_≡_};
-ghost use Prim.Native.Nat.{_+_, _≤_, _<_};
+ghost use Prim.Native.Nat.{_+_, _*_, _≤_, _<_};
 ghost use lib.ListN.{length};
 ghost use lib.Ieee.{binary64, toBits};
 ghost use Rattle.words.specs.Digits.{digits, placesIn};
 ghost use Rattle.words.specs.Digits.{glyph as Digits·glyph};
-ghost use Rattle.words.specs.Printing.{floatWord, wholeWord, written};
+ghost use Rattle.words.specs.Printing.{floatWord, floatsText, wholeWord, written};
 
 // The pattern that is printed for every NaN.
 const QUIET: u64 = 9221120237041090560;
@@ -54,6 +54,21 @@ pub fn put_float(x: f64, out: &mut [u8], at: usize) -> usize
         rest = rest / 16;
     }
     at + 16
+}
+
+// Floats, each with a space before it.
+pub fn put_floats(xs: &[f64], out: &mut [u8], at: usize) -> usize
+    requires { ⌜ at + 17 * length (now xs) ≤ length (now out) ⌝ }
+    ensures { λ r. ⌜ (r ≡ at + 17 * length (now (xs .entry))) × (now (out .exit) ≡ written (now (out .entry)) at (floatsText (now (xs .entry)))) ⌝ }
+{
+    let mut i = 0usize;
+    let mut o = at;
+    while i < xs.len() {
+        out[o] = b' ';
+        o = put_float(xs[i], out, o + 1);
+        i += 1;
+    }
+    o
 }
 
 // How many decimal digits a number has.
