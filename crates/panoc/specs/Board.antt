@@ -4,14 +4,17 @@ use mathlib.Core.Path.{_≡_}
 use mathlib.Core.List.{List}
 use denote.Ref.{RefT}
 use denote.Triple.Both.{Both}
-use mathlib.Core.Bool.{true}
+use mathlib.Core.Bool.{Bool, true, false, cond}
+use mathlib.Core.Option.{Option, none, some}
 use lib.Ieee.{Float, binary64}
 use Rattle.matrix_operations.specs.Firsts.{firsts}
 use Rattle.model.specs.Process as M
+use Rattle.model.specs.Process.{Kind}
 use Rattle.model.specs.State as S
 use Rattle.model.specs.Inner as I
-use Rattle.model.specs.Refusals.{accept, remains, lentAfter, planOf}
+use Rattle.model.specs.Refusals.{accept, remains, lentAfter, planOf, startInner}
 use Rattle.panoc.specs.declared.panoc_cache.Phase.{Phase}
+use Rattle.panoc.specs.declared.panoc_cache.Phase.the-variants as P
 use Rattle.panoc.specs.declared.panoc_cache.ExitStatus.{ExitStatus}
 use Rattle.panoc.specs.declared.panoc_cache.Settings.{Settings}
 use Rattle.panoc.specs.declared.panoc_cache.Numbers.{Numbers}
@@ -161,3 +164,51 @@ Sound s = sound s ≡ true
 -- the best half step in an array, and its norm
 abbrev pub bestAt : ℕ → List Float → Float → S.Best
 bestAt n a x = record { point = firsts n a; norm = x }
+
+-- ---- what a run waits for
+
+-- at a phase, n being the number of places
+abbrev pub wantedAt : ℕ → Phase → Option Kind
+wantedAt n P.Cost = some Kind.number
+wantedAt n P.Gradient = some (Kind.vector n)
+wantedAt n P.Shifted = some (Kind.vector n)
+wantedAt n P.Project = some (Kind.vector n)
+wantedAt n P.HalfCost = some Kind.number
+wantedAt n P.DoubledProject = some (Kind.vector n)
+wantedAt n P.DoubledCost = some Kind.number
+wantedAt n P.Direction = some (Kind.direction n)
+wantedAt n P.FirstCost = some Kind.number
+wantedAt n P.FirstGradient = some (Kind.vector n)
+wantedAt n P.FirstProject = some (Kind.vector n)
+wantedAt n P.TriedCost = some Kind.number
+wantedAt n P.TriedGradient = some (Kind.vector n)
+wantedAt n P.TriedProject = some (Kind.vector n)
+wantedAt n P.Time = some Kind.decision
+wantedAt n P.LastCost = some Kind.number
+wantedAt n P.Over = none
+
+-- whatever is in its vectors
+unfoldable pub wantedOf : Solve → Option Kind
+wantedOf s = cond (sound s) (wantedAt (s .set .n) (s .phase)) none
+
+-- a vector
+abbrev pub wantsVector : Option Kind → Bool
+wantsVector none = false
+wantsVector (some Kind.number) = false
+wantsVector (some (Kind.vector n)) = true
+wantsVector (some (Kind.direction n)) = true
+wantsVector (some Kind.decision) = false
+
+-- the vectors of COST's answers: u, gradient, gradient step, half step and residual
+abbrev pub five : List Float → List Float → List Float → List Float → List Float → Board → Board
+five u g t h r b = record { u = u; plus = b .plus; gradient = g; previous = b .previous; step = t; half = h; fpr = r; direction = b .direction; best = b .best }
+
+-- the vectors of the questions' points: u, candidate, gradient step, half step, residual and best half step
+abbrev pub asked : List Float → List Float → List Float → List Float → List Float → List Float → Board → Board
+asked u w t h r x b = record { u = u; plus = w; gradient = b .gradient; previous = b .previous; step = t; half = h; fpr = r; direction = b .direction; best = x }
+
+-- ---- a start in place
+pub record Begins (s : Settings) (u : List Float) (r : Stepped) (b : Board) : Type 0 where
+  pub settings : r .solve .set ≡ s
+  pub outcome : r .outcome ≡ said (startInner binary64 (settingsOf s) u)
+  pub process : rest (runOf (r .solve) b) ≡ remains (startInner binary64 (settingsOf s) u)

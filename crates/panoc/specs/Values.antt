@@ -1,6 +1,6 @@
 -- What the enums and records of the code stand for in document 01's terms, and the other way round. Definitions only.
 use Prim.Native.Nat.{ℕ}
-use mathlib.Core.Bool.{Bool}
+use mathlib.Core.Bool.{Bool, true, false}
 use mathlib.Core.List.{List, []}
 use mathlib.Core.Option.{Option, none, some}
 use lib.Ieee.{Float}
@@ -50,6 +50,11 @@ replyOf Vector = R.Reply.vector
 replyOf Yes = R.Reply.yes
 replyOf No = R.Reply.no
 replyOf (Failure c) = R.Reply.failure c
+
+-- a yes or a no
+abbrev pub decided : Bool → Reply
+decided true = Yes
+decided false = No
 
 -- what a run waits for; none once it has ended
 abbrev pub kindOf : Wanted → Option Kind
