@@ -6,7 +6,7 @@ use denote.Ref.{RefT}
 use denote.Triple.Both.{Both}
 use mathlib.Core.Bool.{Bool, true, false, cond}
 use mathlib.Core.Option.{Option, none, some}
-use lib.Ieee.{Float, binary64}
+use lib.Ieee.{Float, binary64, ofBits}
 use Rattle.matrix_operations.specs.Firsts.{firsts}
 use Rattle.model.specs.Process as M
 use Rattle.model.specs.Process.{Kind}
@@ -16,6 +16,7 @@ use Rattle.model.specs.Refusals.{accept, remains, lentAfter, planOf, startInner
 use Rattle.panoc.specs.declared.panoc_cache.Phase.{Phase}
 use Rattle.panoc.specs.declared.panoc_cache.Phase.the-variants as P
 use Rattle.panoc.specs.declared.panoc_cache.ExitStatus.{ExitStatus}
+use Rattle.panoc.specs.declared.panoc_cache.ExitStatus.the-variants.{Converged}
 use Rattle.panoc.specs.declared.panoc_cache.Settings.{Settings}
 use Rattle.panoc.specs.declared.panoc_cache.Numbers.{Numbers}
 use Rattle.panoc.specs.declared.panoc_cache.Outcome.{Outcome}
@@ -212,3 +213,83 @@ pub record Begins (s : Settings) (u : List Float) (r : Stepped) (b : Board) : Ty
   pub settings : r .solve .set ≡ s
   pub outcome : r .outcome ≡ said (startInner binary64 (settingsOf s) u)
   pub process : rest (runOf (r .solve) b) ≡ remains (startInner binary64 (settingsOf s) u)
+
+-- the small part of a run that waits for its first COST
+abbrev pub begun : Settings → Solve
+begun s =
+    record {
+      phase = P.Cost;
+      set = s;
+      numbers = record { «cost_value» = ofBits binary64 0; «lipschitz_constant» = ofBits binary64 0; gamma = ofBits binary64 0; sigma = ofBits binary64 0; «norm_gamma_fpr» = ofBits binary64 0; «best_norm_gamma_fpr» = ofBits binary64 0; tau = ofBits binary64 0; «rhs_ls» = ofBits binary64 0; «norm_h» = ofBits binary64 0 };
+      left = 0;
+      iterations = record { 0 = 0 };
+      status = Converged;
+      rounds = 0;
+      forget = true;
+    }
+
+-- ---- points
+
+-- whether anything is wanted
+abbrev pub waiting : Option Kind → Bool
+waiting none = false
+waiting (some k) = true
+
+-- how many places the points have
+abbrev pub firstPlaces : ℕ → Phase → ℕ
+firstPlaces n P.Cost = n
+firstPlaces n P.Gradient = n
+firstPlaces n P.Shifted = n
+firstPlaces n P.Project = n
+firstPlaces n P.HalfCost = n
+firstPlaces n P.DoubledProject = n
+firstPlaces n P.DoubledCost = n
+firstPlaces n P.Direction = n
+firstPlaces n P.FirstCost = n
+firstPlaces n P.FirstGradient = n
+firstPlaces n P.FirstProject = n
+firstPlaces n P.TriedCost = n
+firstPlaces n P.TriedGradient = n
+firstPlaces n P.TriedProject = n
+firstPlaces n P.Time = 0
+firstPlaces n P.LastCost = n
+firstPlaces n P.Over = n
+
+abbrev pub secondPlaces : ℕ → Phase → ℕ
+secondPlaces n P.Cost = 0
+secondPlaces n P.Gradient = 0
+secondPlaces n P.Shifted = 0
+secondPlaces n P.Project = 0
+secondPlaces n P.HalfCost = 0
+secondPlaces n P.DoubledProject = 0
+secondPlaces n P.DoubledCost = 0
+secondPlaces n P.Direction = n
+secondPlaces n P.FirstCost = 0
+secondPlaces n P.FirstGradient = 0
+secondPlaces n P.FirstProject = 0
+secondPlaces n P.TriedCost = 0
+secondPlaces n P.TriedGradient = 0
+secondPlaces n P.TriedProject = 0
+secondPlaces n P.Time = 0
+secondPlaces n P.LastCost = 0
+secondPlaces n P.Over = 0
+
+-- what stands in the first slice, xs before
+abbrev pub firstAt : Run → Phase → List Float → List Float
+firstAt r P.Cost xs = firsts (r .solve .set .n) (r .u)
+firstAt r P.Gradient xs = firsts (r .solve .set .n) (r .u)
+firstAt r P.Shifted xs = firsts (r .solve .set .n) (r .u)
+firstAt r P.Project xs = firsts (r .solve .set .n) (r .«gradient_step»)
+firstAt r P.HalfCost xs = firsts (r .solve .set .n) (r .«u_half_step»)
+firstAt r P.DoubledProject xs = firsts (r .solve .set .n) (r .«gradient_step»)
+firstAt r P.DoubledCost xs = firsts (r .solve .set .n) (r .«u_half_step»)
+firstAt r P.Direction xs = firsts (r .solve .set .n) (r .«gamma_fpr»)
+firstAt r P.FirstCost xs = firsts (r .solve .set .n) (r .u)
+firstAt r P.FirstGradient xs = firsts (r .solve .set .n) (r .u)
+firstAt r P.FirstProject xs = firsts (r .solve .set .n) (r .«gradient_step»)
+firstAt r P.TriedCost xs = firsts (r .solve .set .n) (r .«u_plus»)
+firstAt r P.TriedGradient xs = firsts (r .solve .set .n) (r .«u_plus»)
+firstAt r P.TriedProject xs = firsts (r .solve .set .n) (r .«gradient_step»)
+firstAt r P.Time xs = xs
+firstAt r P.LastCost xs = firsts (r .solve .set .n) (r .«best_u_half_step»)
+firstAt r P.Over xs = xs
