@@ -8,3 +8,6 @@ pub mod Loop
 pub mod Psi
 pub mod Refusals
 pub mod Play
+pub mod Script
+pub mod Runs
+pub mod LongRun
