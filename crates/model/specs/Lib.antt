@@ -11,3 +11,6 @@ pub mod Play
 pub mod Script
 pub mod Runs
 pub mod LongRun
+pub mod Tests
+pub mod Table
+pub mod Bench
