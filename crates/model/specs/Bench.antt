@@ -15,6 +15,7 @@ use Rattle.model.specs.Loop.{LoopSettings}
 use Rattle.model.specs.Psi.{Sizes}
 use Rattle.model.specs.Refusals.{unless, sizesRight, mappingsRight, limitRight, toleranceRight, akktRight, loopNumbersRight, xiRight, innerRefusal, loopRefusal, psiRefusal}
 
+-- a row for each piece
 pub record Bench : Type 0 where
   -- roots, by the bits of binary64: of 4, of 2, of 2^-1074, of 0x7FEFFFFFFFFFFFFF, of -0
   pub root-four : Roots.on binary64 0x4010_0000_0000_0000 ≡ 0x4000_0000_0000_0000
@@ -44,15 +45,17 @@ pub record Bench : Type 0 where
 
 -- ---- the proof
 
--- the first test passes for 64, and fails for 65 and 0
+-- the first test passes for 64
 size-64 : (n k later : ℕ) → n ≡ 64 → unless (sizesRight n 64) k later ≡ later
 unfolding unless sizesRight
 size-64 n k later e = ap (λ (m : ℕ). unless (sizesRight m 64) k later) e
 
+-- for 65 it fails
 size-65 : (n us k later : ℕ) → n ≡ 65 → unless (sizesRight n us) k later ≡ k
 unfolding unless sizesRight
 size-65 n us k later e = ap (λ (m : ℕ). unless (sizesRight m us) k later) e
 
+-- and for 0
 size-0 : (n us k later : ℕ) → n ≡ 0 → unless (sizesRight n us) k later ≡ k
 unfolding unless sizesRight
 size-0 n us k later e = ap (λ (m : ℕ). unless (sizesRight m us) k later) e
@@ -62,6 +65,7 @@ on : (b : Bool) (k later : ℕ) → b ≡ true → unless b k later ≡ later
 unfolding unless
 on b k later e = ap (λ (t : Bool). cond t later k) e
 
+-- all rows hold
 pub bench : Bench
 unfolding shift deltaLipschitz epsilonLipschitz round mul lt keep noBest innerRefusal loopRefusal psiRefusal
 bench =

@@ -13,6 +13,7 @@ use Rattle.model.specs.Refusals.{startInner}
 use Rattle.model.specs.Play.{scored, began, ended}
 use Rattle.model.specs.Script.{int, _·2^_, _/2^_, only, number, vector, yea, COST, GRADIENT, PROJECT, DIRECTION, TIME, Entry, says, _▷_, answersIn, Goes, allInner}
 
+-- of an inner solve
 abbrev pub Transcript : Type 0
 Transcript = List (Entry Question Handed)
 
@@ -36,10 +37,11 @@ nearer k = only (((2 ^ 30 - 1) * 2 ^ k - 1) /2^ (10 + k))
 abbrev candidate : ℕ → List Float
 candidate j = only ((2 ^ 40 - 1025 - 2 ^ (20 - j)) /2^ 20)
 
--- a gradient step from there, and a half step 2^-8 further on, which costs too much
+-- a gradient step from there
 abbrev stepped : ℕ → List Float
 stepped j = only ((2 ^ 39 - 513 - 2 ^ (19 - j)) /2^ 19)
 
+-- a half step 2^-8 further on, so that the candidate is above what it is held to
 abbrev missed : ℕ → List Float
 missed j = only ((2 ^ 39 - 2561 - 2 ^ (19 - j)) /2^ 19)
 
@@ -98,10 +100,12 @@ overwritten =
     ∷ says (ended (handed (record { plan = near 9; status = notConvergedIterations; iterations = 1; norm = 1 /2^ 10; cost = null })))
     ∷ [])
 
+-- so the run goes, and its answers are 86
 pub spends-86 : Goes (startInner binary64 settings start) accepted × (length (answersIn accepted) ≡ 86)
 unfolding allInner accepted
 spends-86 = (refl, refl)
 
+-- and so it goes
 pub fallback-overwritten : Goes (startInner binary64 settings start) overwritten
 unfolding allInner overwritten
 fallback-overwritten = refl

@@ -16,9 +16,11 @@ use Rattle.model.specs.Script.{int, _·2^_, _/2^_, only, number, vector,
 
 -- ---- the loop with nothing but u, twice: each inner solve starts its previous gradient at zeros (docs/DIFFERENCES.md, 1). With the gradient of the solve before, the second solve would end at once
 
+-- 0
 abbrev at0 : List Float
 at0 = only null
 
+-- 1
 abbrev at1 : List Float
 at1 = only (int 1)
 
@@ -30,6 +32,7 @@ moved = only (4951760157141521 /2^ 92)
 abbrev far : List Float
 far = only (neg (37109375 ·2^ 8))
 
+-- M = 1 and K = 2; the first AKKT tolerance is 1
 abbrev twice : LoopSettings
 twice =
     record {
@@ -94,15 +97,19 @@ starts-at-zeros = refl
 abbrev before : List Float
 before = 1125898780943843 /2^ 30 ∷ neg (1 ·2^ 20) ∷ []
 
+-- where the shift leads
 abbrev after : List Float
 after = 1 ·2^ 20 ∷ neg (1 ·2^ 20) ∷ []
 
+-- the first half step
 abbrev first : List Float
 first = int 1048575 ∷ neg (1 ·2^ 20) ∷ []
 
+-- the second
 abbrev second : List Float
 second = 524287 ·2^ 1 ∷ neg (1 ·2^ 20) ∷ []
 
+-- n = 2, and both tolerances are 2
 abbrev two : Settings
 two = record { n = 2; limit = 10; limited = false; tolerance = 1 ·2^ 1; akkt = some (1 ·2^ 1) }
 
@@ -130,9 +137,11 @@ stays-shifted = refl
 
 -- ---- psi and d_psi with c = 1/2 and y = 1: psi divides y by max(c, 1), d_psi by c
 
+-- 3
 abbrev at3 : List Float
 at3 = only (int 3)
 
+-- a place of each
 abbrev one : Sizes
 one = record { n = 1; n1 = 1; n2 = 1 }
 
@@ -165,21 +174,27 @@ d-psi-by-c = refl
 -- ---- The loop with both mappings, a set Y and a limit. At the first iteration c stays; at the second |F2| has decreased from 4 to 1 and |y_plus - y| stays 4, so c becomes 4; the third passes the
 -- exit test. The last COST has c = 0 and y = 1 of that iteration, the multipliers handed back are y_plus = 2. u is so far below 0 that its shift is lost in rounding.
 
+-- u of the first two solves
 abbrev here : List Float
 here = only (neg (1 ·2^ 20))
 
+-- and of the third
 abbrev there : List Float
 there = only (neg (524287 ·2^ 1))
 
+-- c and y of the first iteration, y projected on Y
 abbrev xi1 : List Float
 xi1 = int 1 ∷ int 1 ∷ []
 
+-- of the second
 abbrev xi2 : List Float
 xi2 = int 1 ∷ int 5 ∷ []
 
+-- of the third
 abbrev xi3 : List Float
 xi3 = 1 ·2^ 2 ∷ int 1 ∷ []
 
+-- K = 3; c is multiplied by 4
 abbrev thrice : LoopSettings
 thrice =
     record {

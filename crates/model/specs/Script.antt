@@ -5,7 +5,6 @@ use mathlib.Core.Bool.{Bool, false}
 use mathlib.Core.List.{List, [], _∷_, zipWith}
 use lib.IntN.{pos, negsuc}
 use lib.Ieee.{Float, fin, add, sub, mul, div, neg, lt, eq, le, isNan, round}
-use lib.Ieee.Scale.{finite}
 use Rattle.ieee.specs.Numbers.{absolute, larger}
 use Rattle.ieee.specs.Root.{root}
 use Rattle.ieee.specs.Sums.{squaresFrom, squares, norm}
@@ -22,14 +21,16 @@ use Rattle.model.specs.Play.{Line, asked, Given, lines, call, answers, p
 
 -- ---- numbers
 
--- an odd whole number; m × 2 ^ k and m / 2 ^ k for an odd m
+-- an odd whole number
 abbrev pub int : ℕ → Float
 int m = fin false m (pos 0)
 
+-- m × 2 ^ k for an odd m
 infix 70 _·2^_
 abbrev pub _·2^_ : ℕ → ℕ → Float
 m ·2^ k = fin false m (pos k)
 
+-- m / 2 ^ k for an odd m
 infix 70 _/2^_
 abbrev pub _/2^_ : ℕ → ℕ → Float
 m /2^ k = fin false m (negsuc (k - 1))
@@ -40,32 +41,41 @@ only x = x ∷ []
 
 -- ---- answers
 
+-- a number
 abbrev pub number : Float → Given
 number x = record { reply = R.Reply.number x; vector = [] }
 
+-- a vector, lent
 abbrev pub vector : List Float → Given
 vector v = record { reply = R.Reply.vector; vector = v }
 
+-- yes
 abbrev pub yea : Given
 yea = record { reply = R.Reply.yes; vector = [] }
 
+-- no
 abbrev pub nay : Given
 nay = record { reply = R.Reply.no; vector = [] }
 
 -- ---- what an inner solve asks
 
+-- the cost at a point
 abbrev pub COST : List Float → Line Question Handed
 COST u = asked (Asks.Question.cost u)
 
+-- the gradient at a point
 abbrev pub GRADIENT : List Float → Line Question Handed
 GRADIENT u = asked (Asks.Question.gradient u)
 
+-- the projection of a point
 abbrev pub PROJECT : List Float → Line Question Handed
 PROJECT u = asked (Asks.Question.project u)
 
+-- forget or not, the residual, u
 abbrev pub DIRECTION : Bool → List Float → List Float → Line Question Handed
 DIRECTION forget r u = asked (Asks.Question.direction forget r u)
 
+-- whether there is time left
 abbrev pub TIME : Line Question Handed
 TIME = asked Asks.Question.time
 
@@ -91,15 +101,18 @@ pub data Entry (Q H : Type 0) : Type 0 where
   says : Line Q H → Entry Q H
   gets : Line Q H → Given → Entry Q H
 
+-- a question and its answer
 infix 68 _▷_
 abbrev pub _▷_ : {Q H : Type 0} → Line Q H → Given → Entry Q H
 q ▷ a = gets q a
 
+-- the answers of a transcript
 unfoldable pub answersIn : {Q H : Type 0} → List (Entry Q H) → List Given
 answersIn [] = []
 answersIn (says l ∷ t) = answersIn t
 answersIn (gets l a ∷ t) = a ∷ answersIn t
 
+-- what the run says in it
 unfoldable pub linesIn : {Q H : Type 0} → List (Entry Q H) → List (Line Q H)
 linesIn [] = []
 linesIn (says l ∷ t) = l ∷ linesIn t

@@ -17,9 +17,11 @@ use Rattle.model.specs.Tests.{Test, test, above, fails, passed, among}
 
 -- ---- an inner start
 
+-- its conditions, in their order
 abbrev innerTests : Settings → ℕ → List Test
 innerTests s us = test 1 (sizesRight (s .n) us) ∷ test 3 (limitRight 10000 (s .limit)) ∷ test 4 (toleranceRight (s .tolerance) && akktRight (s .akkt)) ∷ []
 
+-- which number says what
 pub record InnerRows (s : Settings) (us : ℕ) : Type 0 where
   pub one : (innerRefusal s us ≡ 1) ↔ (sizesRight (s .n) us ≡ false)
   pub three : (innerRefusal s us ≡ 3) ↔ ((sizesRight (s .n) us ≡ true) × (limitRight 10000 (s .limit) ≡ false))
@@ -27,6 +29,7 @@ pub record InnerRows (s : Settings) (us : ℕ) : Type 0 where
   pub none : (innerRefusal s us ≡ 0) ↔ ((sizesRight (s .n) us ≡ true) × ((limitRight 10000 (s .limit) ≡ true) × ((toleranceRight (s .tolerance) && akktRight (s .akkt)) ≡ true)))
   pub total : (innerRefusal s us ≡ 1) ⊎ ((innerRefusal s us ≡ 3) ⊎ ((innerRefusal s us ≡ 4) ⊎ (innerRefusal s us ≡ 0)))
 
+-- at every start
 pub inner-rows : (s : Settings) (us : ℕ) → InnerRows s us
 unfolding innerRefusal
 inner-rows s us =
@@ -35,6 +38,7 @@ inner-rows s us =
 
 -- ---- a start of the loop
 
+-- its conditions, in their order
 abbrev loopTests : Format → LoopSettings → ℕ → List Float → List Test
 loopTests f s us xi =
     test 1 (sizesRight (s .n) us)
@@ -44,6 +48,7 @@ loopTests f s us xi =
     ∷ test 5 (xiRight xi)
     ∷ []
 
+-- which number says what
 pub record LoopRows (f : Format) (s : LoopSettings) (us : ℕ) (xi : List Float) : Type 0 where
   pub one : (loopRefusal f s us xi ≡ 1) ↔ (sizesRight (s .n) us ≡ false)
   pub two : (loopRefusal f s us xi ≡ 2) ↔ ((sizesRight (s .n) us ≡ true) × (mappingsRight (s .n1) (s .n2) (s .setY) (length xi) ≡ false))
@@ -68,6 +73,7 @@ pub record LoopRows (f : Format) (s : LoopSettings) (us : ℕ) (xi : List Float)
       (loopRefusal f s us xi ≡ 1)
       ⊎ ((loopRefusal f s us xi ≡ 2) ⊎ ((loopRefusal f s us xi ≡ 3) ⊎ ((loopRefusal f s us xi ≡ 4) ⊎ ((loopRefusal f s us xi ≡ 5) ⊎ (loopRefusal f s us xi ≡ 0)))))
 
+-- at every start
 pub loop-rows : (f : Format) (s : LoopSettings) (us : ℕ) (xi : List Float) → LoopRows f s us xi
 unfolding loopRefusal
 loop-rows f s us xi =
@@ -76,15 +82,18 @@ loop-rows f s us xi =
 
 -- ---- a start of psi or of d_psi
 
+-- its conditions, in their order
 abbrev psiTests : Sizes → ℕ → ℕ → List Test
 psiTests s us xis = test 1 (sizesRight (s .n) us) ∷ test 2 (mappingsRight (s .n1) (s .n2) false xis) ∷ []
 
+-- which number says what
 pub record PsiRows (s : Sizes) (us xis : ℕ) : Type 0 where
   pub one : (psiRefusal s us xis ≡ 1) ↔ (sizesRight (s .n) us ≡ false)
   pub two : (psiRefusal s us xis ≡ 2) ↔ ((sizesRight (s .n) us ≡ true) × (mappingsRight (s .n1) (s .n2) false xis ≡ false))
   pub none : (psiRefusal s us xis ≡ 0) ↔ ((sizesRight (s .n) us ≡ true) × (mappingsRight (s .n1) (s .n2) false xis ≡ true))
   pub total : (psiRefusal s us xis ≡ 1) ⊎ ((psiRefusal s us xis ≡ 2) ⊎ (psiRefusal s us xis ≡ 0))
 
+-- at every start
 pub psi-rows : (s : Sizes) (us xis : ℕ) → PsiRows s us xis
 unfolding psiRefusal
 psi-rows s us xis =
@@ -93,9 +102,11 @@ psi-rows s us xis =
 
 -- ---- an answer to a question of the kind k: never 6; "7 not the kind asked, or failure for TIME or DIRECTION", "8 a lent slice not of the length asked"
 
+-- its conditions, in their order
 abbrev answerTests : Kind → Reply → ℕ → Bool → List Test
 answerTests k a vs lent = test 7 (fitsKind k a) ∷ test 8 (fitsLength k a vs && lent) ∷ []
 
+-- which number says what
 pub record AnswerRows (k : Kind) (a : Reply) (vs : ℕ) (lent : Bool) : Type 0 where
   pub six : answerRefusal (some k) a vs lent ≡ 6 → ⊥
   pub seven : (answerRefusal (some k) a vs lent ≡ 7) ↔ (fitsKind k a ≡ false)
@@ -103,6 +114,7 @@ pub record AnswerRows (k : Kind) (a : Reply) (vs : ℕ) (lent : Bool) : Type 0 w
   pub none : (answerRefusal (some k) a vs lent ≡ 0) ↔ ((fitsKind k a ≡ true) × ((fitsLength k a vs && lent) ≡ true))
   pub total : (answerRefusal (some k) a vs lent ≡ 7) ⊎ ((answerRefusal (some k) a vs lent ≡ 8) ⊎ (answerRefusal (some k) a vs lent ≡ 0))
 
+-- at every answer
 pub answer-rows : (k : Kind) (a : Reply) (vs : ℕ) (lent : Bool) → AnswerRows k a vs lent
 unfolding answerRefusal unless
 answer-rows k a vs lent =
@@ -118,6 +130,7 @@ Over (score half norm p) = Over p
 Over (begin p) = Over p
 Over (stop e) = Unit {0}
 
+-- at every answer
 pub over-row : {Q H : Type 0} (p : Process Q H) (a : Reply) (vs : ℕ) (lent : Bool) → (answerRefusal (wanted (remains p)) a vs lent ≡ 6) ↔ Over p
 unfolding wanted remains answerRefusal
 over-row (ask q k continue) a vs lent = (λ e. absurd (answer-rows k a vs lent .six e), λ w. absurd w)

@@ -18,6 +18,7 @@ abbrev pub first : List Test → ℕ
 first [] = 0
 first (test n b ∷ ts) = unless b n (first ts)
 
+-- each number is above the one before
 abbrev pub rising : ℕ → List Test → Bool
 rising low [] = true
 rising low (test n b ∷ ts) = ltb low n && rising n ts
@@ -57,6 +58,7 @@ fails-here true false n r k p q x i = (λ w. (refl, i .0 w), λ w. i .1 (w .1))
 fails-here false true n r k p q x i = (λ w. refl, λ w. p tt)
 fails-here false false n r k p q x i = (λ w. absurd (q w), λ w. absurd (true≢false (sym (w .0))))
 
+-- of any list
 pub fails : (ts : List Test) (low : ℕ) → T (rising low ts) → (k : ℕ) → (first ts ≡ suc k) ↔ Fails (suc k) ts
 fails [] low h k = (λ e. absurd (omega arith), λ w. absurd w)
 fails (test n b ∷ ts) low h k =
@@ -69,6 +71,7 @@ unfolding unless
 passed-here true n r h i = (λ w. (refl, i .0 w), λ w. i .1 (w .1))
 passed-here false n r h i = (λ w. absurd (omega arith), λ w. absurd (true≢false (sym (w .0))))
 
+-- of any list
 pub passed : (ts : List Test) (low : ℕ) → T (rising low ts) → (first ts ≡ 0) ↔ Passed ts
 passed [] low h = (λ e. tt, λ w. refl)
 passed (test n b ∷ []) low h =
@@ -85,6 +88,7 @@ unfolding unless
 among-here true n r P p = inr p
 among-here false n r P p = inl refl
 
+-- of any list
 pub among : (ts : List Test) → Among (first ts) ts
 among [] = refl
 among (test n b ∷ ts) = among-here b n (first ts) (λ (r : ℕ). Among r ts) (among ts)
