@@ -1,6 +1,6 @@
 use mathlib.Core.Path.{ap}
-use Rattle.panoc.specs.declared.panoc_cache.Solve.{Solve}
-use Rattle.panoc.specs.declared.panoc_cache.Outcome.the-variants as O
+use Rattle.panoc_core.specs.declared.panoc_cache.Solve.{Solve}
+use Rattle.panoc_core.specs.declared.panoc_cache.Outcome.the-variants as O
 use borrow.Author.Needs.{needs}
 use Rattle.panoc.proofs.panoc_answers.fails.Statement.{statement}
 use Rattle.panoc.proofs.panoc_answers.fails.Tie as tie

@@ -1,4 +1,4 @@
-use Rattle.panoc.proofs.CallLaws.{sound-wide, sound-long, sound-far, sound-is}
+use Rattle.panoc_core.specs.Wanted.{sound-wide, sound-long, sound-far, sound-is}
 use Rattle.panoc.proofs.panoc_answers.is_sound.Statement.{statement}
 use Rattle.panoc.proofs.panoc_answers.is_sound.Tie as tie
 

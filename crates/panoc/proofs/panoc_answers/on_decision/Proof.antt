@@ -1,6 +1,6 @@
 use Rattle.model.specs.Process.{Kind}
-use Rattle.panoc.proofs.CallLaws.{wanted-sound, decision-takes}
-use Rattle.panoc.specs.Board.{six}
+use Rattle.panoc_core.specs.Wanted.{wanted-sound, decision-takes}
+use Rattle.panoc_core.specs.Board.{six}
 use Rattle.panoc.proofs.panoc_answers.on_decision.Statement.{statement}
 use Rattle.panoc.proofs.panoc_answers.on_decision.Tie as tie
 

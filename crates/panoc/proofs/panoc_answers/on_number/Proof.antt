@@ -1,8 +1,8 @@
 use native.Mathlib.Omega.{arith}
 use Rattle.model.specs.Process.{Kind}
-use Rattle.panoc.proofs.CallLaws.{wanted-sound, other}
-use Rattle.panoc.specs.Board.{five}
-use Rattle.panoc.specs.declared.panoc_cache.Phase.the-variants as P
+use Rattle.panoc_core.specs.Wanted.{wanted-sound, other}
+use Rattle.panoc_core.specs.Board.{five}
+use Rattle.panoc_core.specs.declared.panoc_cache.Phase.the-variants as P
 use borrow.Author.Needs.{needs}
 use Rattle.panoc.proofs.panoc_answers.on_number.Statement.{statement}
 use Rattle.panoc.proofs.panoc_answers.on_number.Tie as tie

@@ -1,7 +1,7 @@
 use mathlib.Core.Path.{refl}
-use Rattle.panoc.proofs.CallLaws.{vector-sound, not-vector}
-use Rattle.panoc.specs.Board.{nine}
-use Rattle.panoc.specs.declared.panoc_cache.Phase.the-variants as P
+use Rattle.panoc_core.specs.Wanted.{vector-sound, not-vector}
+use Rattle.panoc_core.specs.Board.{nine}
+use Rattle.panoc_core.specs.declared.panoc_cache.Phase.the-variants as P
 use borrow.Author.Needs.{needs}
 use Rattle.panoc.proofs.panoc_answers.on_vector.Statement.{statement}
 use Rattle.panoc.proofs.panoc_answers.on_vector.Tie as tie

@@ -3,10 +3,10 @@ use mathlib.Core.Path.{_≡_, sym, ap, _∙_}
 use Prim.Native.Nat.{ℕ}
 use lib.ListN.{length}
 use Rattle.model.specs.Refusals.{answerRefusal}
-use Rattle.panoc.specs.Values.{replyOf}
-use Rattle.panoc.specs.declared.panoc_cache.Reply.{Reply}
-use Rattle.panoc.proofs.CallLaws.{number-wanted, vector-wanted, decision-wanted, took-number, took-vector, took-decision, took-failure, refusal-of}
-use Rattle.panoc.specs.Board.{nine, wantedOf}
+use Rattle.panoc_core.specs.Values.{replyOf}
+use Rattle.panoc_core.specs.declared.panoc_cache.Reply.{Reply}
+use Rattle.panoc_core.specs.Wanted.{number-wanted, vector-wanted, decision-wanted, took-number, took-vector, took-decision, took-failure, refusal-of}
+use Rattle.panoc_core.specs.Board.{nine, wantedOf}
 use borrow.Author.Needs.{needs}
 use Rattle.panoc.proofs.panoc_answers.take.Statement.{statement}
 use Rattle.panoc.proofs.panoc_answers.take.Tie as tie

@@ -1,7 +1,7 @@
 use mathlib.Core.Path.{refl}
-use Rattle.panoc.proofs.CallLaws.{wants-at, wants-none}
-use Rattle.panoc.specs.declared.panoc_cache.Phase.the-variants as P
-use Rattle.panoc.specs.declared.refusals.Wanted.the-variants as W
+use Rattle.panoc_core.specs.Wanted.{wants-at, wants-none}
+use Rattle.panoc_core.specs.declared.panoc_cache.Phase.the-variants as P
+use Rattle.panoc_core.specs.declared.refusals.Wanted.the-variants as W
 use borrow.Author.Needs.{needs}
 use Rattle.panoc.proofs.panoc_answers.wants.Statement.{statement}
 use Rattle.panoc.proofs.panoc_answers.wants.Tie as tie

@@ -2,9 +2,9 @@ use mathlib.Core.Path.{refl, ap, _∙_, sym}
 use Rattle.model.specs.Process.{Kind}
 use mathlib.Core.Option.{Option}
 use Rattle.model.specs.Refusals.{answerRefusal}
-use Rattle.panoc.specs.Values.{replyOf}
+use Rattle.panoc_core.specs.Values.{replyOf}
 use lib.ListN.{length}
-use Rattle.panoc.specs.Board.{nine}
+use Rattle.panoc_core.specs.Board.{nine}
 use Rattle.panoc.proofs.CallLaws.{answer-goes, answer-refused, answer-fits, answer-length, refusal-wanted}
 use borrow.Author.Needs.{needs}
 use Rattle.panoc.proofs.panoc_optimizer.answer_in_place.Statement.{statement}

@@ -1,5 +1,5 @@
 use mathlib.Core.Path.{ap, sym}
-use Rattle.panoc.specs.Board.{firstPlaces}
+use Rattle.panoc_core.specs.Board.{firstPlaces}
 use borrow.Author.Needs.{needs}
 use Rattle.panoc.proofs.panoc_optimizer.first_places.Statement.{statement}
 use Rattle.panoc.proofs.panoc_optimizer.first_places.Tie as tie

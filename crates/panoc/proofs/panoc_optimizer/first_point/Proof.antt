@@ -1,8 +1,8 @@
 use native.Mathlib.Omega.{arith}
 use mathlib.Core.Path.{refl}
 use Rattle.panoc.proofs.CallLaws.{first-fits, point-at, point-stays}
-use Rattle.panoc.specs.Board.{asked}
-use Rattle.panoc.specs.declared.panoc_cache.Phase.the-variants as P
+use Rattle.panoc_core.specs.Board.{asked}
+use Rattle.panoc_core.specs.declared.panoc_cache.Phase.the-variants as P
 use borrow.Author.Needs.{needs}
 use Rattle.panoc.proofs.panoc_optimizer.first_point.Statement.{statement}
 use Rattle.panoc.proofs.panoc_optimizer.first_point.Tie as tie

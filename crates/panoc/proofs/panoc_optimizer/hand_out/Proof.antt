@@ -1,5 +1,5 @@
 use mathlib.Core.Path.{refl}
-use Rattle.panoc.specs.Board.{given}
+use Rattle.panoc_core.specs.Board.{given}
 use borrow.Author.Needs.{needs}
 use Rattle.panoc.proofs.panoc_optimizer.hand_out.Statement.{statement}
 use Rattle.panoc.proofs.panoc_optimizer.hand_out.Tie as tie

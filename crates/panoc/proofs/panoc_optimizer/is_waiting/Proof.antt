@@ -1,6 +1,6 @@
 use mathlib.Core.Path.{refl}
 use Rattle.panoc.proofs.CallLaws.{waits-as}
-use Rattle.panoc.specs.declared.refusals.Wanted.the-variants as W
+use Rattle.panoc_core.specs.declared.refusals.Wanted.the-variants as W
 use borrow.Author.Needs.{needs}
 use Rattle.panoc.proofs.panoc_optimizer.is_waiting.Statement.{statement}
 use Rattle.panoc.proofs.panoc_optimizer.is_waiting.Tie as tie

@@ -1,4 +1,4 @@
-use Rattle.panoc.specs.Board.{Board}
+use Rattle.panoc_core.specs.Board.{Board}
 use borrow.Author.Needs.{needs}
 use Rattle.panoc.proofs.panoc_optimizer.points.Statement.{statement}
 use Rattle.panoc.proofs.panoc_optimizer.points.Tie as tie

@@ -1,8 +1,8 @@
 use native.Mathlib.Omega.{arith}
 use mathlib.Core.Path.{_∙_}
 use Rattle.panoc.proofs.CallLaws.{waiting-sound, second-fits, points-over, points-first, points-second, points-given}
-use Rattle.panoc.proofs.Laws.{sound-n}
-use Rattle.panoc.specs.Board.{asked}
+use Rattle.panoc_core.specs.Laws.{sound-n}
+use Rattle.panoc_core.specs.Board.{asked}
 use mathlib.Core.Path.{sym}
 use borrow.Author.Needs.{needs}
 use Rattle.panoc.proofs.panoc_optimizer.points_in_place.Statement.{statement}

@@ -1,5 +1,5 @@
 use mathlib.Core.Path.{ap, sym}
-use Rattle.panoc.specs.Board.{secondPlaces}
+use Rattle.panoc_core.specs.Board.{secondPlaces}
 use borrow.Author.Needs.{needs}
 use Rattle.panoc.proofs.panoc_optimizer.second_places.Statement.{statement}
 use Rattle.panoc.proofs.panoc_optimizer.second_places.Tie as tie

@@ -1,7 +1,7 @@
 use Rattle.panoc.proofs.CallLaws.{started, start-runs, start-refuses, start-same, start-stops}
 use mathlib.Core.Path.{sym, _∙_, subst, refl}
-use Rattle.panoc.specs.Board.{setU, Begins}
-use Rattle.panoc.specs.declared.panoc_cache.Solve.{Solve}
+use Rattle.panoc_core.specs.Board.{setU, Begins}
+use Rattle.panoc_core.specs.declared.panoc_cache.Solve.{Solve}
 use Rattle.panoc.proofs.CallLaws.{started, start-runs, start-refuses, start-same}
 use borrow.Author.Needs.{needs}
 use Rattle.panoc.proofs.panoc_optimizer.start_in_place.Statement.{statement}
