@@ -19,3 +19,9 @@ pub mod EverySolve
 pub mod EveryLoop
 pub mod Carry
 pub mod Starts
+pub mod Script
+pub mod Runs
+pub mod LongRun
+pub mod Tests
+pub mod Table
+pub mod Bench

@@ -11,14 +11,14 @@ use Rattle.matrix_operations.specs.Firsts.{firsts}
 use Rattle.model.specs.Process.{ask, score, begin, stop, Solve}
 use Rattle.model.specs.Process as M
 use Rattle.model.specs.Refusals.{wanted, answerRefusal, accept, remains, lentAfter, planOf, startInner}
-use Rattle.panoc.specs.declared.panoc_cache.Settings.{Settings}
-use Rattle.panoc.specs.declared.panoc_cache.Outcome.{Outcome}
-use Rattle.panoc.specs.declared.panoc_cache.Outcome.the-variants.{Asked, Ended, Refused, Failed}
-use Rattle.panoc.specs.declared.panoc_cache.Reply.{Reply}
-use Rattle.panoc.specs.declared.panoc_cache.Run.{Run}
-use Rattle.panoc.specs.declared.panoc_cache.Answered.{Answered}
-use Rattle.panoc.specs.Values.{settingsOf, replyOf, said, firstPoint, secondPoint}
-use Rattle.panoc.specs.Rest.{rest}
+use Rattle.panoc_core.specs.declared.panoc_cache.Settings.{Settings}
+use Rattle.panoc_core.specs.declared.panoc_cache.Outcome.{Outcome}
+use Rattle.panoc_core.specs.declared.panoc_cache.Outcome.the-variants.{Asked, Ended, Refused, Failed}
+use Rattle.panoc_core.specs.declared.panoc_cache.Reply.{Reply}
+use Rattle.panoc_core.specs.declared.panoc_cache.Run.{Run}
+use Rattle.panoc_core.specs.declared.panoc_cache.Answered.{Answered}
+use Rattle.panoc_core.specs.Values.{settingsOf, replyOf, said, firstPoint, secondPoint}
+use Rattle.panoc_core.specs.Rest.{rest}
 
 -- a call has come to the process p, under the settings s: us and ws are the lent u before and after
 pub record Reaches (s : Settings) (p : Solve) (us ws : List Float) (r : Answered) : Type 0 where

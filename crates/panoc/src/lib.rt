@@ -1,6 +1,3 @@
-// PANOC as a run that asks and answers: document 01, "One inner solve".
-pub mod lipschitz_estimator;
-pub mod panoc_cache;
-pub mod panoc_engine;
+// PANOC as a run that asks and answers: document 01, "One inner solve". The records and the steps are those of panoc_core.
+pub mod panoc_answers;
 pub mod panoc_optimizer;
-pub mod refusals;

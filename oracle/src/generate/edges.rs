@@ -57,10 +57,13 @@ fn of_inner(random: &mut Random, inner: &Inner, hold: &mut Hold) -> Placed {
         }
         Place::CandidateGradient => candidate_gradient(random, inner, hold),
         Place::CandidateProject => {
-            let by_distance = random.chance(600).then(|| candidate_project(random, inner));
-            by_distance
-                .flatten()
-                .or_else(|| half_step(random, inner, &inner.candidate))
+            let name = "edge line search by projection";
+            let placed = if random.chance(600) {
+                at_envelope(random, inner, inner.rhs, name)
+            } else {
+                None
+            };
+            placed.or_else(|| half_step(random, inner, &inner.candidate))
         }
         _ => None,
     }
@@ -135,7 +138,7 @@ fn shifted_gradient(random: &mut Random, inner: &Inner) -> Placed {
 /// A half step whose norm is at the tolerance, at the AKKT tolerance, or at the best so far.
 fn half_step(random: &mut Random, inner: &Inner, point: &[f64]) -> Placed {
     let first = inner.place == Place::Project;
-    match random.below(4) {
+    match random.below(5) {
         0 => at_norm(random, point, inner.tolerance, "edge tolerance"),
         1 => {
             let akkt = inner.akkt?;
@@ -152,6 +155,7 @@ fn half_step(random: &mut Random, inner: &Inner, point: &[f64]) -> Placed {
             })
         }
         2 => at_norm(random, point, inner.best_norm, "edge score"),
+        3 => at_envelope(random, inner, 0.0, "envelope near 0"),
         _ => {
             // a residual of the same norm as the last, by signs and order
             let mut residual = inner.residual.clone();
@@ -194,21 +198,16 @@ fn candidate_gradient(random: &mut Random, inner: &Inner, hold: &mut Hold) -> Pl
     placed
 }
 
-/// A half step for which the candidate's test is at its limit.
-fn candidate_project(random: &mut Random, inner: &Inner) -> Placed {
-    let spare = inner.rhs - inner.envelope(inner.cost, &inner.gradient, 0.0);
+/// A half step for which the cost, the gradient and d² together are at a limit: that of the candidate's test, or 0, so that
+/// σ × norm × norm is all that is left of the next limit.
+fn at_envelope(random: &mut Random, inner: &Inner, limit: f64, name: &'static str) -> Placed {
+    let spare = limit - inner.envelope(inner.cost, &inner.gradient, 0.0);
     let reach = 2.0 * (2.0 * spare.abs() * inner.gamma).sqrt();
     let from = loosened(random, &inner.gradient_step, 0.5 * reach);
-    tune(
-        random,
-        from,
-        2.0 * reach,
-        "edge line search by projection",
-        |half| {
-            let distance = squares_between(&inner.gradient_step, half);
-            inner.envelope(inner.cost, &inner.gradient, distance) > inner.rhs
-        },
-    )
+    tune(random, from, 2.0 * reach, name, |half| {
+        let distance = squares_between(&inner.gradient_step, half);
+        inner.envelope(inner.cost, &inner.gradient, distance) > limit
+    })
 }
 
 /// F2 or a projection on C for which an exit test, or the test that keeps c, is at its limit.

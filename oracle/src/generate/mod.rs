@@ -46,6 +46,8 @@ pub struct Plan {
     pub fails: usize,
     pub left: usize,
     pub no: usize,
+    /// After so many answers the run is failed.
+    pub longest: usize,
 }
 
 impl Plan {
@@ -70,6 +72,7 @@ impl Plan {
             fails: random.pick(&[0, 0, 0, 0, 30]),
             left: random.pick(&[0, 0, 0, 0, 0, 0, 0, 30]),
             no: random.pick(&[0, 50, 300, 500]),
+            longest: 20_000,
         }
     }
 }
@@ -87,12 +90,10 @@ impl Plan {
             fails: 0,
             left: 0,
             no: 0,
+            longest: usize::MAX,
         }
     }
 }
-
-/// Other runs are failed after so many answers.
-const LONGEST: usize = 20_000;
 
 /// Answers as a plan says.
 pub struct Generator {
@@ -107,8 +108,6 @@ pub struct Generator {
     show: bool,
     on_edge: bool,
     answers: usize,
-    /// The run may have as many answers as it wants.
-    endless: bool,
 }
 
 impl Generator {
@@ -125,7 +124,6 @@ impl Generator {
             show: start.call != Call::DPsi || start.n <= 128,
             on_edge: false,
             answers: 0,
-            endless: start.m == 10_000 || start.k == 1_000,
         }
     }
 
@@ -141,7 +139,7 @@ impl Generator {
             };
         }
         self.answers += 1;
-        let too_long = self.answers > LONGEST && !self.endless;
+        let too_long = self.answers > plan.longest;
         if asked.kind != Kind::Direction && (too_long || random.chance(plan.fails)) {
             return Line::Failure(random.pick(&[0, 1, 7, u32::MAX, 1 << 31]));
         }

@@ -39,7 +39,11 @@ fn lend_wrongly(random: &mut Random, wants: Wants, tape: &Tape, queue: &mut VecD
     let lent = match tape.call {
         Some(Call::Inner) | Some(Call::DPsi) => (another(random, u), xi),
         Some(Call::Loop) => (another(random, u), another(random, xi)),
-        _ => return,
+        _ => {
+            // psi lends nothing, so nothing is refused; the right lengths are lent after its end
+            queue.push_back(Said::Line(Line::Lend(u + 1, xi + 1)));
+            return;
+        }
     };
     if lent == (u, xi) {
         return;
@@ -99,6 +103,10 @@ pub fn after_end(
     disturbed: bool,
     queue: &mut VecDeque<Said>,
 ) {
+    let (u, xi) = tape.lengths();
+    if disturbed && tape.call == Some(Call::Psi) {
+        queue.push_back(Said::Line(Line::Lend(u, xi)));
+    }
     if show {
         queue.push_back(Said::Line(Line::Show));
     }
@@ -106,7 +114,6 @@ pub fn after_end(
         return;
     }
     // the end comes before the lengths
-    let (u, xi) = tape.lengths();
     let lends = show && random.chance(200) && tape.call != Some(Call::Psi);
     if lends {
         queue.push_back(Said::Line(Line::Lend(u + 1, xi)));

@@ -86,7 +86,9 @@ pub fn marathon(random: &mut Random) -> Start {
     } else {
         start.k = 1_000;
         start.m = 1;
-        start.delta = 1e-300;
+        start.epsilon = 1e-300;
+        start.akkt = Some(1e300);
+        start.epsilon_factor = 0.999;
         start.penalty_factor = 1.0 + 4.0 * f64::EPSILON;
     }
     start
