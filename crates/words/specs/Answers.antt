@@ -9,9 +9,10 @@ use borrow.Author.Tests.{lt-ltb, le-ltb}
 use lib.Ieee.{Float, binary64, ofBits}
 use Rattle.words.specs.Reading.{hexOf, byBits, floatOf, under, wholeOf, isDash}
 use Rattle.words.specs.Numerals.{whole-less}
-use Rattle.words.specs.Values.{wholeIs, realIs, setIs, toleranceIs}
+use Rattle.words.specs.Values.{wholeIs, realIs, flagIs, setIs, toleranceIs}
 use Rattle.words.specs.declared.reading.Whole.{Whole}
 use Rattle.words.specs.declared.reading.Real.{Real}
+use Rattle.words.specs.declared.reading.Flag.{Flag}
 use Rattle.words.specs.declared.reading.Tolerance.{Tolerance}
 
 -- ---- a float by its pattern
@@ -77,3 +78,28 @@ module _ (w : List ℕ) where
       go : (o : Option Float) → Real.Other ≡ realIs o → Tolerance.Other ≡ setIs o
       go none e = refl
       go (some z) e = let y : _≡_ {A = ℕ} 0 1 = cc in absurd (omega arith)
+
+-- ---- what an enum says of what was read
+pub whole-some : (o : Option ℕ) (n : ℕ) → wholeIs o ≡ Whole.Value n → o ≡ some n
+whole-some none n e = let z : _≡_ {A = ℕ} 0 1 = cc in absurd (omega arith)
+whole-some (some k) n e = let z : k ≡ n = cc in ap some z
+
+pub whole-none : (o : Option ℕ) → wholeIs o ≡ Whole.Other → o ≡ none
+whole-none none e = refl
+whole-none (some k) e = let z : _≡_ {A = ℕ} 0 1 = cc in absurd (omega arith)
+
+pub real-some : (o : Option Float) (x : Float) → realIs o ≡ Real.Value x → o ≡ some x
+real-some none x e = let z : _≡_ {A = ℕ} 0 1 = cc in absurd (omega arith)
+real-some (some y) x e = let z : y ≡ x = cc in ap some z
+
+pub real-none : (o : Option Float) → realIs o ≡ Real.Other → o ≡ none
+real-none none e = refl
+real-none (some y) e = let z : _≡_ {A = ℕ} 0 1 = cc in absurd (omega arith)
+
+pub flag-some : (o : Option Bool) (b : Bool) → flagIs o ≡ Flag.Value b → o ≡ some b
+flag-some none b e = let z : _≡_ {A = ℕ} 0 1 = cc in absurd (omega arith)
+flag-some (some t) b e = let z : t ≡ b = cc in ap some z
+
+pub flag-none : (o : Option Bool) → flagIs o ≡ Flag.Other → o ≡ none
+flag-none none e = refl
+flag-none (some t) e = let z : _≡_ {A = ℕ} 0 1 = cc in absurd (omega arith)

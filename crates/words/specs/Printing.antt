@@ -18,6 +18,13 @@ floatsText (x ∷ xs) = (32 ∷ floatWord x) ++ floatsText xs
 unfoldable pub wholeWord : ℕ → List ℕ
 wholeWord n = digits 10 (placesIn 19 n) n
 
+-- a word with a whole number behind it, and one with floats behind it
+unfoldable pub countedText : List ℕ → ℕ → List ℕ
+countedText w n = w ++ wholeWord n
+
+unfoldable pub pointText : List ℕ → List Float → List ℕ
+pointText w xs = w ++ floatsText xs
+
 -- a buffer in which w stands at a place, with the rest as it was
 unfoldable pub written : List ℕ → ℕ → List ℕ → List ℕ
 written out at w = take at out ++ w ++ drop (at + length w) out

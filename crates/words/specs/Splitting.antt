@@ -1,6 +1,6 @@
 -- The words of a line, one space apart. Definitions only.
 use Prim.Native.Nat.{ℕ}
-use mathlib.Core.Bool.{cond}
+use mathlib.Core.Bool.{Bool, true, false, cond, _&&_}
 use mathlib.Core.List.{List, [], _∷_}
 use lib.Dec.{eqb}
 
@@ -18,3 +18,10 @@ onto c (w ∷ ws) = (c ∷ w) ∷ ws
 unfoldable pub wordsOf : List ℕ → List (List ℕ)
 wordsOf [] = [] ∷ []
 wordsOf (c ∷ l) = cond (eqb c 32) ([] ∷ wordsOf l) (onto c (wordsOf l))
+
+-- whether two words are one
+unfoldable pub isWord : List ℕ → List ℕ → Bool
+isWord [] [] = true
+isWord [] (c ∷ v) = false
+isWord (c ∷ w) [] = false
+isWord (c ∷ w) (d ∷ v) = eqb c d && isWord w v

@@ -1,6 +1,6 @@
 -- Laws for a loop that looks for a word's end. Assumes nothing.
 use mathlib.Core.Path.{_≡_, refl, sym, ap, _∙_}
-use mathlib.Core.Bool.{Bool, true, false, cond}
+use mathlib.Core.Bool.{Bool, true, false, cond, _&&_}
 use mathlib.Core.List.{List, [], _∷_, _++_}
 use Prim.Native.Nat.{ℕ, zero, suc, _+_, _-_, _≤_, _<_, suc-le-suc, zero-le}
 use native.Mathlib.Numerals.{add-one}
@@ -9,7 +9,7 @@ use lib.Dec.{eqb}
 use lib.ListN.{length, getD, take, drop, drop-of-length-le}
 use lib.Seq.{drop-cons}
 use borrow.Author.Tests.{eq-eqb, ne-eqb}
-use Rattle.words.specs.Splitting.{firstWord, onto, wordsOf}
+use Rattle.words.specs.Splitting.{firstWord, onto, wordsOf, isWord}
 
 module _ (l : List ℕ) (i : ℕ) where
   pub word-turn : i < length l → (getD l i 0 ≡ 32 → ⊥) → length (firstWord (drop i l)) ≡ suc (length (firstWord (drop (i + 1) l)))
@@ -60,3 +60,28 @@ words-first (c ∷ l) = go (eqb c 32) (words-first l)
         → cond t ([] ∷ wordsOf l) (onto c (wordsOf l)) ≡ cond t [] (c ∷ firstWord l) ∷ behind (drop (length (cond t [] (c ∷ firstWord l))) (c ∷ l))
     go true e = refl
     go false e = ap (onto c) e
+
+-- ---- whether two words are one, byte by byte
+pub same-short : (a b : List ℕ) → (length a ≡ length b → ⊥) → isWord a b ≡ false
+unfolding isWord
+same-short [] [] h = absurd (h refl)
+same-short [] (d ∷ b) h = refl
+same-short (c ∷ a) [] h = refl
+same-short (c ∷ a) (d ∷ b) h = rw (same-short a b (λ e. h (ap suc e))) (neither (eqb c d))
+  where
+    neither : (t : Bool) → (t && false) ≡ false
+    neither true = refl
+    neither false = refl
+
+module _ (a b : List ℕ) (i : ℕ) where
+  pub same-turn : i < length a → i < length b → getD a i 0 ≡ getD b i 0 → isWord (drop i a) (drop i b) ≡ isWord (drop (i + 1) a) (drop (i + 1) b)
+  unfolding isWord
+  same-turn h k e = rw (add-one i, drop-cons a i 0 h, drop-cons b i 0 k, eq-eqb (getD a i 0) (getD b i 0) e)
+
+  pub same-not : i < length a → i < length b → (getD a i 0 ≡ getD b i 0 → ⊥) → isWord (drop i a) (drop i b) ≡ false
+  unfolding isWord
+  same-not h k e = rw (drop-cons a i 0 h, drop-cons b i 0 k, ne-eqb (getD a i 0) (getD b i 0) e)
+
+  pub same-all : length a ≤ i → length b ≤ i → isWord (drop i a) (drop i b) ≡ true
+  unfolding isWord
+  same-all h k = rw (drop-of-length-le a h, drop-of-length-le b k)

@@ -7,9 +7,11 @@ use native.Mathlib.Numerals.{add-one}
 use native.Mathlib.Omega.{arith}
 use lib.ListN.{length, getD, take, drop, set, length-append, length-drop, take-append-drop, length-set}
 use lib.Seq.{length-take-le, take-length, take-at, drop-at, take-suc-set, set-append-left, append-snoc, set-split, take-suc, drop-drop, paste}
-use Rattle.words.specs.Digits.{glyph, digits}
+use mathlib.Core.Bool.{Bool, true, false, cond}
+use lib.Dec.{ltb, lit≤}
+use Rattle.words.specs.Digits.{glyph, digits, placesIn}
 use lib.Ieee.{Float, nan, binary64, toBits}
-use Rattle.words.specs.Printing.{floatWord, floatsText, written}
+use Rattle.words.specs.Printing.{floatWord, floatsText, wholeWord, written}
 
 pub written-none : (out : List ℕ) (at : ℕ) → written out at [] ≡ out
 unfolding written
@@ -67,6 +69,19 @@ pub length-digits : (b k n : ℕ) → length (digits b k n) ≡ k
 unfolding digits
 length-digits b zero n = refl
 length-digits b (suc k) n = length-append (digits b k (n / b)) (glyph (n % b) ∷ []) ∙ ap (λ (j : ℕ). j + 1) (length-digits b k (n / b)) ∙ add-one k
+
+places-most : (k n : ℕ) → placesIn k n ≤ suc k
+unfolding placesIn
+places-most zero n = lit≤ tt
+places-most (suc k) n = go (ltb n 10) (places-most k (n / 10))
+  where
+    go : (t : Bool) → placesIn k (n / 10) ≤ suc k → cond t 1 (suc (placesIn k (n / 10))) ≤ suc (suc k)
+    go true h = omega arith
+    go false h = omega arith
+
+pub length-whole : (n : ℕ) → length (wholeWord n) ≤ 20
+unfolding wholeWord
+length-whole n = omega (arith, length-digits 10 (placesIn 19 n) n, places-most 19 n)
 
 -- i of the k digits of w in base b are still to come, those of rest; the others stand behind them
 pub record Spelt (b k : ℕ) (w out₀ : List ℕ) (at : ℕ) (out : List ℕ) (rest i : ℕ) : Type 0 where
@@ -132,3 +147,7 @@ floats-turn xs i out₀ at out o out′ h room p e q =
     ∙ written-both out o (32 ∷ []) (floatWord x) (omega arith)
     ∙ rw (e, k) (written-both out₀ at t (32 ∷ floatWord x) (omega arith))
     ∙ ap (written out₀ at) (sym (floats-more (take i xs) x) ∙ ap floatsText (sym (take-suc xs i nan h) ∙ ap (λ (j : ℕ). take j xs) (sym (add-one i))))
+
+-- ---- a word with something behind it: out₁ is the buffer with the word, at₁ the place behind it
+pub behind-word : (out : List ℕ) (at : ℕ) (v w : List ℕ) (at₁ : ℕ) (out₁ out₂ : List ℕ) → at + length v + length w ≤ length out → at₁ ≡ at + length v → out₁ ≡ written out at v → out₂ ≡ written out₁ at₁ w → out₂ ≡ written out at (v ++ w)
+behind-word out at v w at₁ out₁ out₂ h p e q = q ∙ rw (e, p) (written-both out at v w h)

@@ -5,7 +5,7 @@ ghost use lib.ListN.{length};
 ghost use lib.Ieee.{binary64, toBits};
 ghost use Rattle.words.specs.Digits.{digits, placesIn};
 ghost use Rattle.words.specs.Digits.{glyph as Digits·glyph};
-ghost use Rattle.words.specs.Printing.{floatWord, floatsText, wholeWord, written};
+ghost use Rattle.words.specs.Printing.{floatWord, floatsText, wholeWord, countedText, pointText, written};
 
 // The pattern that is printed for every NaN.
 const QUIET: u64 = 9221120237041090560;
@@ -98,4 +98,22 @@ pub fn put_whole(n: u64, out: &mut [u8], at: usize) -> usize
         rest = rest / 10;
     }
     at + k
+}
+
+// A word with a whole number behind it.
+pub fn put_counted(word: &[u8], n: u64, out: &mut [u8], at: usize) -> usize
+    requires { ⌜ at + length (now word) + 20 ≤ length (now out) ⌝ }
+    ensures { λ r. ⌜ (r ≡ at + length (countedText (now (word .entry)) n)) × (now (out .exit) ≡ written (now (out .entry)) at (countedText (now (word .entry)) n)) ⌝ }
+{
+    let next = put_word(word, out, at);
+    put_whole(n, out, next)
+}
+
+// A word with floats behind it.
+pub fn put_point(word: &[u8], xs: &[f64], out: &mut [u8], at: usize) -> usize
+    requires { ⌜ at + length (now word) + 17 * length (now xs) ≤ length (now out) ⌝ }
+    ensures { λ r. ⌜ (r ≡ at + length (now (word .entry)) + 17 * length (now (xs .entry))) × (now (out .exit) ≡ written (now (out .entry)) at (pointText (now (word .entry)) (now (xs .entry)))) ⌝ }
+{
+    let next = put_word(word, out, at);
+    put_floats(xs, out, next)
 }

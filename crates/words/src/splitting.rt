@@ -2,7 +2,7 @@
 ghost use mathlib.Core.Path.{_≡_};
 ghost use Prim.Native.Nat.{_+_};
 ghost use lib.ListN.{length, drop};
-ghost use Rattle.words.specs.Splitting.{firstWord};
+ghost use Rattle.words.specs.Splitting.{firstWord, isWord};
 
 // Where the word that begins at a place ends: at the next space, or where the line ends.
 pub fn ending(line: &[u8], from: usize) -> usize
@@ -28,4 +28,21 @@ pub fn word(line: &[u8], from: usize) -> &[u8]
     } else {
         &line[..0]
     }
+}
+
+// Whether two words are one.
+pub fn same(a: &[u8], b: &[u8]) -> bool
+    ensures { λ r. ⌜ r ≡ isWord (now (a .entry)) (now (b .entry)) ⌝ }
+{
+    if a.len() != b.len() {
+        return false;
+    }
+    let mut i = 0usize;
+    while i < a.len() {
+        if a[i] != b[i] {
+            return false;
+        }
+        i += 1;
+    }
+    true
 }

@@ -1,3 +1,4 @@
+-- `words::printing::put_floats` meets its contract: after i turns the first i floats stand. Assumes nothing.
 use mathlib.Core.List.{List}
 use lib.Ieee.{Float}
 use Prim.Native.Nat.{ℕ, _≤_, _+_, _*_, _-_}
