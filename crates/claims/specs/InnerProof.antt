@@ -32,7 +32,9 @@ use Rattle.panoc.specs.Calls.{Answers, Starts}
 use Rattle.claims.specs.History.{Runs, Call, Meets, History}
 use Rattle.claims.specs.Trace.{refusal, leadsTo, left, Event, answered, scored, began, trace, weighed}
 use Rattle.claims.specs.Claim.{Each, Follows, ScoresRight, latest, scores}
-use Rattle.claims.specs.Follow.{Reaches, Gives, nothing, back, Lawful, AllRight, scores-right, right-left, within-left, After, follows, Back, each-each, each-back, refusedBy}
+use Rattle.claims.specs.Lawful.{refusedBy, Gives, nothing, back, Lawful}
+use Rattle.claims.specs.Left.{scores-right, right-left, within-left}
+use Rattle.claims.specs.Follow.{After, follows, Back, each-each, each-back}
 use Rattle.claims.specs.Chosen.{plan-is}
 use Rattle.claims.specs.Inner.{inner, solveOf, traceOf, Hands, InnerClaim}
 

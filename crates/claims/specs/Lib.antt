@@ -1,7 +1,9 @@
 pub mod History
 pub mod Trace
 pub mod Claim
+pub mod Inner
+pub mod Lawful
+pub mod Left
 pub mod Follow
 pub mod Chosen
-pub mod Inner
 pub mod InnerProof
