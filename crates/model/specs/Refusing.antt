@@ -142,7 +142,7 @@ module _ (f : Format) (s : LoopSettings) where
     inner-good : (st : LoopState) → GoodLoop (Outer.innerSolve f s next st)
     unfolding Outer.innerSolve Outer.solved
     inner-good st =
-        refuses-within (Among 10 16) (Among 10 18) (λ k z. (z .0, omega (arith, z .1))) _ (Outer.solved f s next st) (λ h. f1-good _)
+        refuses-within (Among 10 16) (Among 10 18) (λ k z. (z .0, omega (arith, z .1))) _ (Outer.solved f s next (Outer.carriedOf st)) (λ h. f1-good _)
         (solve f (Outer.innerSettings s st) (st .u)) (solve-refuses f (Outer.innerSettings s st) (st .u))
 
     iteration-good : (st : LoopState) → GoodLoop (Outer.iteration f s next st)
