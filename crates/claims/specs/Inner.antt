@@ -3,6 +3,7 @@ use Prim.Native.Nat.{ℕ, _+_, _*_, _≤_}
 use mathlib.Core.Path.{_≡_}
 use mathlib.Core.Bool.{Bool, true, false}
 use mathlib.Core.List.{List, _∷_}
+use mathlib.Core.Option.{some}
 use lib.Dec.{eqb}
 use lib.Ieee.{Float, binary64, lt}
 use lib.ListN.{length}
@@ -19,11 +20,11 @@ use Rattle.panoc_core.specs.declared.panoc_cache.SolverStatus.{SolverStatus}
 use Rattle.panoc_core.specs.declared.panoc_cache.Outcome.{Outcome}
 use Rattle.panoc_core.specs.declared.panoc_cache.Outcome.the-variants.{Asked, Ended, Refused, Failed}
 use Rattle.panoc_core.specs.declared.panoc_cache.Run.{Run}
-use Rattle.panoc_core.specs.Values.{settingsOf, said}
+use Rattle.panoc_core.specs.Values.{settingsOf, said, firstPoint, secondPoint}
 use Rattle.panoc_core.specs.Rest.{rest}
-use Rattle.panoc.specs.Calls.{Answers}
+use Rattle.panoc.specs.Calls.{Answers, asking, Points}
 use Rattle.claims.specs.History.{Runs, Call}
-use Rattle.claims.specs.Trace.{Event, trace, weighed}
+use Rattle.claims.specs.Trace.{left, Event, trace, weighed}
 use Rattle.claims.specs.Claim.{Each, Follows, ScoresRight, scores, Plan}
 
 -- an outcome: whether a plan is handed back, and the number of a refusal
@@ -78,6 +79,8 @@ pub record Hands (s : Settings) (scores : List Scored) (e : SolverStatus) (u : L
 pub record InnerClaim (s : Settings) (u : List Float) (r : Run) (cs : List (Call inner)) (t : Run) : Type 0 where
   -- "the run asks, scores, refuses and ends as document 01 says; no more than .. answers are accepted, and after that many the run has ended": "30 + 56M together"
   pub follows : Follows inner s (solveOf s u) (30 + 56 * s .«max_iter») r cs t
+  -- its questions have document 01's points: those that the call `points` copies out of the run
+  pub points : (xs xs′ ys ys′ : List Float) → Points t xs xs′ ys ys′ 0 → (q : M.Question) → asking (left inner s (solveOf s u) cs) ≡ some q → (xs′ ≡ firstPoint q) × (ys′ ≡ secondPoint q)
   -- "At most 14 + 22M COST, 3 + 11M GRADIENT, 12 + 21M PROJECT, 1 + M DIRECTION and M TIME"
   pub costs : weighed (weigh onlyCost) (traceOf s u cs) ≤ 14 + 22 * s .«max_iter»
   pub gradients : weighed (weigh onlyGradient) (traceOf s u cs) ≤ 3 + 11 * s .«max_iter»

@@ -7,7 +7,6 @@ use native.Mathlib.Omega.{arith}
 use lib.Ieee.{Float, binary64, lt}
 use lib.ListN.{length}
 use Rattle.model.specs.Process.{Handed, Solve, handed, refused, failed, ask, score, begin, stop}
-use Rattle.model.specs.Process as M
 use Rattle.model.specs.Inner.{solve}
 use Rattle.model.specs.Refusals.{innerRefusal, orRefused, startInner, remains, lentAfter, lentAt, planOf, accept}
 use Rattle.model.specs.Bounds.{AtMost, weigh, onlyCost, onlyGradient, onlyProject, onlyDirection, onlyTime, solve-questions-at-most, solve-cost-at-most, solve-gradient-at-most, solve-project-at-most, solve-direction-at-most, solve-time-at-most}
@@ -25,17 +24,19 @@ use Rattle.panoc_core.specs.declared.panoc_cache.SolverStatus.{SolverStatus}
 use Rattle.panoc_core.specs.declared.panoc_cache.Outcome.{Outcome}
 use Rattle.panoc_core.specs.declared.panoc_cache.Outcome.the-variants.{Asked, Ended, Refused, Failed}
 use Rattle.panoc_core.specs.declared.panoc_cache.Run.{Run}
+use Rattle.panoc_core.specs.declared.panoc_cache.Stepped.{Stepped}
 use Rattle.panoc_core.specs.declared.panoc_cache.Answered.{Answered}
 use Rattle.panoc_core.specs.Values.{settingsOf, said, exitStatus}
 use Rattle.panoc_core.specs.Rest.{rest}
-use Rattle.panoc.specs.Calls.{Answers, Starts}
+use Rattle.panoc_core.specs.Board.{Board, runOf, gave, Begins}
+use Rattle.panoc.specs.Calls.{Starts, asking}
 use Rattle.claims.specs.History.{Runs, Call, Meets, History}
 use Rattle.claims.specs.Trace.{refusal, leadsTo, left, Event, answered, scored, began, trace, weighed}
 use Rattle.claims.specs.Claim.{Each, Follows, ScoresRight, latest, scores}
 use Rattle.claims.specs.Lawful.{refusedBy, Gives, nothing, back, Lawful}
 use Rattle.claims.specs.Left.{scores-right, right-left, within-left}
 use Rattle.claims.specs.Follow.{After, follows, Back, each-each, each-back}
-use Rattle.claims.specs.Chosen.{plan-is}
+use Rattle.claims.specs.Chosen.{plan-is, is-converged}
 use Rattle.claims.specs.Inner.{inner, solveOf, traceOf, Hands, InnerClaim}
 
 -- ---- the contract of the calls, in the shared terms
@@ -85,11 +86,6 @@ unfolding said orRefused
 accepted-start s u zero n = refl
 accepted-start s u (suc m) n = absurd (n (suc m) refl)
 
-is-converged : (e : M.Status) → exitStatus e ≡ Converged → e ≡ M.converged
-is-converged M.converged e = refl
-is-converged M.notConvergedIterations e = let z : _≡_ {A = ℕ} 0 1 = cc in absurd (omega arith)
-is-converged M.notConvergedOutOfTime e = let z : _≡_ {A = ℕ} 0 1 = cc in absurd (omega arith)
-
 -- the plan of the model, on what the code hands back
 hands-is : (s : Settings) (es : List Scored) (h : Handed) (e : SolverStatus) (u : List Float) → SolvePlan (settingsOf s) es h → said (stop (handed h)) ≡ Ended e → u ≡ h .plan → Hands s es e u
 unfolding said
@@ -101,10 +97,10 @@ hands-is s es h e u p o w = subst (λ (v : List Float). Hands s es e v) (sym w) 
     same : record { «exit_status» = exitStatus (h .status); iterations = record { 0 = h .iterations }; «norm_fpr» = h .norm; «cost_value» = h .cost } ≡ e
     same = cc
 
-module _ (s : Settings) (u : List Float) (a : Answered) (starts : Starts s u a) (began : (m : ℕ) → a .outcome ≡ Refused m → ⊥) where
+module _ (s : Settings) (u : List Float) (a : Answered) (starts : Starts s u a) (accepts : (m : ℕ) → a .outcome ≡ Refused m → ⊥) where
   none-refused : innerRefusal (settingsOf s) (length u) ≡ 0
   unfolding startInner
-  none-refused = accepted-start s u _ (λ m e. began m (starts .outcome ∙ e))
+  none-refused = accepted-start s u _ (λ m e. accepts m (starts .outcome ∙ e))
 
   same-start : startInner binary64 (settingsOf s) u ≡ solveOf s u
   unfolding startInner orRefused
@@ -127,9 +123,10 @@ module _ (s : Settings) (u : List Float) (a : Answered) (starts : Starts s u a) 
 
   -- From an accepted start, whatever list of calls follows.
   pub inner-claim : {cs : List (Call inner)} {t : Run} → History inner (a .run) cs t → InnerClaim s u (a .run) cs t
-  inner-claim {cs} h =
+  inner-claim {cs} {t} h =
       record {
-        follows = follows inner lawful s (solveOf s u) (Among 10 16) beyond (solve-refuses binary64 (settingsOf s) u) (a .run) first _ (solve-questions-at-most binary64 (settingsOf s) u) h;
+        follows = following;
+        points = λ xs xs′ ys ys′ z q e. z .points refl q (ap asking (following .rest) ∙ e);
         costs = within-left inner s (solveOf s u) (weigh onlyCost) _ (solve-cost-at-most binary64 (settingsOf s) u) cs .0;
         gradients = within-left inner s (solveOf s u) (weigh onlyGradient) _ (solve-gradient-at-most binary64 (settingsOf s) u) cs .0;
         projections = within-left inner s (solveOf s u) (weigh onlyProject) _ (solve-project-at-most binary64 (settingsOf s) u) cs .0;
@@ -138,3 +135,12 @@ module _ (s : Settings) (u : List Float) (a : Answered) (starts : Starts s u a) 
         scored = scores-right binary64 seen (traceOf s u cs) (right-left inner s (solveOf s u) (tracing binary64 seen) _ nothingYet (solve-traced binary64 (settingsOf s) u) cs);
         plan = each-each _ _ hands-one cs (each-back inner lawful s (solveOf s u) (Among 10 16) beyond (solve-refuses binary64 (settingsOf s) u) (a .run) first scoring (SolvePlan (settingsOf s)) [] ends h);
       }
+    where
+      following : Follows inner s (solveOf s u) (30 + 56 * s .«max_iter») (a .run) cs t
+      following = follows inner lawful s (solveOf s u) (Among 10 16) beyond (solve-refuses binary64 (settingsOf s) u) (a .run) first _ (solve-questions-at-most binary64 (settingsOf s) u) h
+
+-- The same from an accepted start in place, whose vectors are those of the board b.
+pub inner-claim-in-place : (s : Settings) (u : List Float) (a : Stepped) (b : Board) → Begins s u a b → ((m : ℕ) → a .outcome ≡ Refused m → ⊥)
+    → {cs : List (Call inner)} {t : Run} → History inner (runOf (a .solve) b) cs t → InnerClaim s u (runOf (a .solve) b) cs t
+inner-claim-in-place s u a b starts accepts h =
+    inner-claim s u (gave a b) (record { settings = starts .settings; outcome = starts .outcome; process = starts .process }) accepts h
