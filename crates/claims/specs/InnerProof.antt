@@ -1,16 +1,15 @@
 -- Demand 3 holds for an inner solve used alone. Assumes nothing.
 use Prim.Native.Nat.{ℕ, zero, suc, _+_, _*_, _≤_}
 use mathlib.Core.Path.{_≡_, refl, sym, ap, _∙_, subst}
-use mathlib.Core.Bool.{Bool, true, false}
+use mathlib.Core.Bool.{true}
 use mathlib.Core.List.{List, [], _∷_}
 use native.Mathlib.Omega.{arith}
-use lib.Ieee.{Float, binary64, lt}
+use lib.Ieee.{Float, binary64}
 use lib.ListN.{length}
 use Rattle.model.specs.Process.{Handed, Solve, handed, refused, failed, ask, score, begin, stop}
 use Rattle.model.specs.Inner.{solve}
-use Rattle.model.specs.Refusals.{innerRefusal, orRefused, startInner, remains, lentAfter, lentAt, planOf, accept}
-use Rattle.model.specs.Bounds.{AtMost, weigh, onlyCost, onlyGradient, onlyProject, onlyDirection, onlyTime, solve-questions-at-most, solve-cost-at-most, solve-gradient-at-most, solve-project-at-most, solve-direction-at-most, solve-time-at-most}
-use Rattle.model.specs.Paths.{Along}
+use Rattle.model.specs.Refusals.{innerRefusal, orRefused, startInner, remains, lentAfter, lentAt, planOf}
+use Rattle.model.specs.Bounds.{weigh, onlyCost, onlyGradient, onlyProject, onlyDirection, onlyTime, solve-questions-at-most, solve-cost-at-most, solve-gradient-at-most, solve-project-at-most, solve-direction-at-most, solve-time-at-most}
 use Rattle.model.specs.Scoring.{seen, nothingYet, tracing}
 use Rattle.model.specs.Carry.{endOf}
 use Rattle.model.specs.Least.{Scored}
@@ -19,10 +18,8 @@ use Rattle.model.specs.Refusing.{Among, solve-refuses}
 use Rattle.model.specs.Starts.{start-inner-ends}
 use Rattle.model.specs.EverySolve.{solve-traced}
 use Rattle.panoc_core.specs.declared.panoc_cache.Settings.{Settings}
-use Rattle.panoc_core.specs.declared.panoc_cache.ExitStatus.the-variants.{Converged}
 use Rattle.panoc_core.specs.declared.panoc_cache.SolverStatus.{SolverStatus}
-use Rattle.panoc_core.specs.declared.panoc_cache.Outcome.{Outcome}
-use Rattle.panoc_core.specs.declared.panoc_cache.Outcome.the-variants.{Asked, Ended, Refused, Failed}
+use Rattle.panoc_core.specs.declared.panoc_cache.Outcome.the-variants.{Ended, Refused}
 use Rattle.panoc_core.specs.declared.panoc_cache.Run.{Run}
 use Rattle.panoc_core.specs.declared.panoc_cache.Stepped.{Stepped}
 use Rattle.panoc_core.specs.declared.panoc_cache.Answered.{Answered}
@@ -30,9 +27,9 @@ use Rattle.panoc_core.specs.Values.{settingsOf, said, exitStatus}
 use Rattle.panoc_core.specs.Rest.{rest}
 use Rattle.panoc_core.specs.Board.{Board, runOf, gave, Begins}
 use Rattle.panoc.specs.Calls.{Starts, asking}
-use Rattle.claims.specs.History.{Runs, Call, Meets, History}
-use Rattle.claims.specs.Trace.{refusal, leadsTo, left, Event, answered, scored, began, trace, weighed}
-use Rattle.claims.specs.Claim.{Each, Follows, ScoresRight, latest, scores}
+use Rattle.claims.specs.History.{Call, History}
+use Rattle.claims.specs.Trace.{refusal, leadsTo, left, scored}
+use Rattle.claims.specs.Claim.{Follows, scores}
 use Rattle.claims.specs.Lawful.{refusedBy, Gives, nothing, back, Lawful}
 use Rattle.claims.specs.Left.{scores-right, right-left, within-left}
 use Rattle.claims.specs.Follow.{After, follows, Back, each-each, each-back}

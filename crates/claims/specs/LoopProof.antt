@@ -1,5 +1,5 @@
 -- Demand 3 holds for the multiplier loop. Assumes nothing.
-use Prim.Native.Nat.{ℕ, zero, suc, _+_, _*_, _≤_}
+use Prim.Native.Nat.{ℕ, zero, suc, _≤_}
 use mathlib.Core.Path.{_≡_, refl, sym, ap, _∙_, subst}
 use mathlib.Core.Bool.{true}
 use mathlib.Core.List.{List, [], _∷_}
@@ -11,9 +11,8 @@ use Rattle.model.specs.Process as M
 use Rattle.model.specs.Refusals.{loopRefusal, penaltyIn, multipliersIn, orRefused, startLoop, remains, lentAfter, lentAt, loopPlan, loopXi}
 use Rattle.model.specs.Bounds.{loop-at-most}
 use Rattle.model.specs.Scoring.{seenInLoop, nothingYet, tracing}
-use Rattle.model.specs.Counts.{Tally, counting, Counted, LoopCount}
+use Rattle.model.specs.Counts.{counting, LoopCount}
 use Rattle.model.specs.Carry.{endOf}
-use Rattle.model.specs.Least.{Scored}
 use Rattle.model.specs.Plans.{scoring, Ends, LoopPlan}
 use Rattle.model.specs.Refusing.{Refuses, Among, loop-refuses}
 use Rattle.model.specs.Starts.{start-loop-ends}
@@ -23,13 +22,13 @@ use Rattle.panoc_core.specs.Values.{exitStatus}
 use Rattle.alm_core.specs.declared.alm_cache.AlmSettings.{AlmSettings}
 use Rattle.alm_core.specs.declared.alm_cache.AlmOptimizerStatus.{AlmOptimizerStatus}
 use Rattle.alm_core.specs.declared.alm_cache.AlmOutcome.{AlmOutcome}
-use Rattle.alm_core.specs.declared.alm_cache.AlmOutcome.the-variants.{Asked, Ended, Refused, Failed}
+use Rattle.alm_core.specs.declared.alm_cache.AlmOutcome.the-variants.{Ended, Refused}
 use Rattle.alm_core.specs.declared.alm_cache.AlmRun.{AlmRun}
 use Rattle.alm_core.specs.Values.{settingsOf, said}
 use Rattle.claims.specs.History.{Runs, Call, Meets, History}
-use Rattle.claims.specs.Trace.{refusal, leadsTo, left, Event, trace, watched}
-use Rattle.claims.specs.Claim.{Each, scores, tally}
-use Rattle.claims.specs.Loop.{Places, numberOf, loopOf, ExitPassed, LoopHands, LoopClaim, outer, traceOf}
+use Rattle.claims.specs.Trace.{refusal, leadsTo, left, Event}
+use Rattle.claims.specs.Claim.{scores, tally}
+use Rattle.claims.specs.Loop.{Places, numberOf, loopOf, LoopHands, LoopClaim, outer, traceOf}
 use Rattle.claims.specs.Lawful.{refusedBy, Reaches, Gives, nothing, back, Lawful}
 use Rattle.claims.specs.Left.{scores-right, right-left}
 use Rattle.claims.specs.Follow.{After, follows, Back, each-both, each-back}
