@@ -5,7 +5,7 @@ use mathlib.Core.Bool.{Bool, true, false, cond, _&&_, true≢false}
 use mathlib.Core.List.{List, [], _∷_}
 use mathlib.Core.Option.{Option, none, some}
 use native.Mathlib.Omega.{arith}
-use borrow.Author.Tests.{leb-true}
+use borrow.Author.Tests.{lt-leb}
 use lib.Dec.{leb}
 use lib.ListN.{length}
 use Rattle.model.specs.Process.{Kind, Process, handed, refused, failed, ask, score, begin, stop}
@@ -16,22 +16,23 @@ use Rattle.model.specs.Carry.{at-most-ended}
 use Rattle.model.specs.Refusing.{Refuses}
 use Rattle.panoc_core.specs.Values.{replyOf}
 use Rattle.claims.specs.History.{Runs, Call, Meets, History, begun, more}
-use Rattle.claims.specs.Trace.{refusal, leadsTo, comesTo, left, trace, watched, turnedDown, accepted, weighed}
+use Rattle.claims.specs.Trace.{refusal, leadsTo, comesTo, left, trace, watched, sixToEight, turnedDown, accepted, weighed}
 use Rattle.claims.specs.Claim.{Each, latestRun, Unchanged, Over, Follows}
 use Rattle.claims.specs.Lawful.{refusedBy, Reaches, Gives, nothing, back, Lawful, gives-kept, refused-hands}
 use Rattle.claims.specs.Left.{left-accepted, left-refused, trace-accepted, trace-refused, weighed-passed, weighed-taken, asked-one, handed-left, within-left, awaits-accepted, awaits-left}
 
 -- ---- the table's numbers
 
-abbrev sixToEight : ℕ → Bool
-sixToEight m = leb 6 m && leb m 8
-
 down-by : (m n : ℕ) → n ≡ suc m → sixToEight n ≡ true → sixToEight (suc m) ≡ true
 down-by m n e h = rw e at h
 
+and-not : (a b : Bool) → b ≡ false → a && b ≡ false
+and-not true b e = e
+and-not false b e = refl
+
 -- the table refuses an answer by 6, 7 or 8
 table-down : (w : Option Kind) (r : Reply) (vs : ℕ) (lent : Bool) (m : ℕ) → answerRefusal w r vs lent ≡ suc m → sixToEight (suc m) ≡ true
-unfolding answerRefusal
+unfolding answerRefusal sixToEight
 table-down none r vs lent m e = down-by m 6 e refl
 table-down (some k) r vs lent m e = by (fitsKind k r) (fitsLength k r vs && lent) e
   where
@@ -42,19 +43,18 @@ table-down (some k) r vs lent m e = by (fitsKind k r) (fitsLength k r vs && lent
 
 -- ---- a list of calls
 
+past-eight : (m : ℕ) → 9 ≤ m → sixToEight m ≡ false
+unfolding sixToEight
+past-eight m l = and-not (leb 6 m) _ (lt-leb m _ (omega arith))
+
 -- a number by which nothing ends is none of 6 to 8
 not-down : {Q H : Type 0} (P : ℕ → Type 0) → ((m : ℕ) → P m → 9 ≤ m) → (q : Process Q H) → Refuses P q → sixToEight (refusedBy q) ≡ false
-unfolding refusedBy
+unfolding refusedBy sixToEight
 not-down P beyond (ask q k continue) t = refl
 not-down P beyond (score half norm p) t = not-down P beyond p t
 not-down P beyond (begin p) t = not-down P beyond p t
 not-down P beyond (stop (handed h)) t = refl
-not-down P beyond (stop (refused m)) t = by (leb 6 m) (leb m 8) refl (beyond m t)
-  where
-    by : (a b : Bool) → leb m 8 ≡ b → 9 ≤ m → a && b ≡ false
-    by true true e l = absurd (omega (arith, leb-true m 8 e))
-    by true false e l = refl
-    by false b e l = refl
+not-down P beyond (stop (refused m)) t = past-eight m (beyond m t)
 not-down P beyond (stop (failed c)) t = refl
 
 pub each-both : {A : Type 0} (F G K : A → List A → Type 0) → ((c : A) (cs : List A) → F c cs → G c cs → K c cs) → (cs : List A) → Each F cs → Each G cs → Each K cs
@@ -169,7 +169,7 @@ module _ {Q H : Type 0} (k : Runs Q H) (law : Lawful k) (s : k .Settings) (p : P
   -- ---- the whole list
 
   module _ (r : k .Run) (first : After k s p [] r) where
-    follow : {cs : List (Call k)} {t : k .Run} → History k r cs t → After k s p cs t
+    pub follow : {cs : List (Call k)} {t : k .Run} → History k r cs t → After k s p cs t
     follow begun = first
     follow (more {t = t} {cs = cs} h c meets) = one cs t (follow h) c meets .after
 
@@ -215,12 +215,10 @@ module _ {Q H : Type 0} (k : Runs Q H) (law : Lawful k) (s : k .Settings) (p : P
             writes = each-one _ (λ ds u c e o. o .writes) h;
             unchanged = each-one _ (λ ds u c e o d. (o .unchanged d .0 ∙ sym e, o .unchanged d .1)) h;
             kept = each-one _ (λ ds u c e o. o .kept) h;
+            counted = counted h;
             bound = omega (arith, counted h, held .0);
-            ended = λ e. over t (ap wanted (follow h .rest) ∙ at-most-ended (left k s p cs) (subst (AtMost (λ q. 1) (left k s p cs)) (spent e) (held .1)));
+            ended = λ e. over t (ap wanted (follow h .rest) ∙ at-most-ended (left k s p cs) (subst (AtMost (λ q. 1) (left k s p cs)) (omega (arith, counted h, e)) (held .1)));
           }
         where
           held : (weighed (λ q. 1) (trace k s p cs) ≤ b) × AtMost (λ q. 1) (left k s p cs) (b - weighed (λ q. 1) (trace k s p cs))
           held = within-left k s p (λ q. 1) b most cs
-
-          spent : accepted k cs ≡ b → b - weighed (λ q. 1) (trace k s p cs) ≡ 0
-          spent e = omega (arith, counted h)

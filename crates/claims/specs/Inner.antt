@@ -41,8 +41,8 @@ numberOf (Refused m) = m
 numberOf (Failed c) = 0
 
 -- the calls of an inner solve, each of which lends u
-abbrev pub inner : Runs M.Question Handed
-inner =
+abbrev pub innerRuns : Runs M.Question Handed
+innerRuns =
     record {
       Run = Run;
       Settings = Settings;
@@ -63,11 +63,11 @@ abbrev pub solveOf : Settings → List Float → Solve
 solveOf s u = solve binary64 (settingsOf s) u
 
 -- all that has happened in these calls
-abbrev pub traceOf : Settings → List Float → List (Call inner) → List (Event M.Question)
-traceOf s u cs = trace inner s (solveOf s u) cs
+abbrev pub traceOf : Settings → List Float → List (Call innerRuns) → List (Event M.Question)
+traceOf s u cs = trace innerRuns s (solveOf s u) cs
 
 -- What is handed back, after these scores: e, and the plan in the lent u.
-pub record Hands (s : Settings) (scores : List Scored) (e : SolverStatus) (u : List Float) : Type 0 where
+pub record InnerHands (s : Settings) (scores : List Scored) (e : SolverStatus) (u : List Float) : Type 0 where
   -- "that plan is the earliest half step of least finite norm scored .. That norm is handed back with it; every entry of the plan is finite"
   pub plan : Plan (s .n) scores u (e .«norm_fpr»)
   -- "and "Converged" stands only where that norm is below the tolerance"
@@ -76,11 +76,11 @@ pub record Hands (s : Settings) (scores : List Scored) (e : SolverStatus) (u : L
   pub iterations : length scores ≡ e .iterations .0 + 2
 
 -- "For every list of answers from an accepted start, whichever of them are refused and however wrong the model, projection or direction, and for every .. M inner iterations within the limits": the start with s and u returned r, and the calls cs have led to t.
-pub record InnerClaim (s : Settings) (u : List Float) (r : Run) (cs : List (Call inner)) (t : Run) : Type 0 where
+pub record InnerClaim (s : Settings) (u : List Float) (r : Run) (cs : List (Call innerRuns)) (t : Run) : Type 0 where
   -- "the run asks, scores, refuses and ends as document 01 says; no more than .. answers are accepted, and after that many the run has ended": "30 + 56M together"
-  pub follows : Follows inner s (solveOf s u) (30 + 56 * s .«max_iter») r cs t
+  pub follows : Follows innerRuns s (solveOf s u) (30 + 56 * s .«max_iter») r cs t
   -- its questions have document 01's points: those that the call `points` copies out of the run
-  pub points : (xs xs′ ys ys′ : List Float) → Points t xs xs′ ys ys′ 0 → (q : M.Question) → asking (left inner s (solveOf s u) cs) ≡ some q → (xs′ ≡ firstPoint q) × (ys′ ≡ secondPoint q)
+  pub points : (xs xs′ ys ys′ : List Float) → Points t xs xs′ ys ys′ 0 → (q : M.Question) → asking (left innerRuns s (solveOf s u) cs) ≡ some q → (xs′ ≡ firstPoint q) × (ys′ ≡ secondPoint q)
   -- "At most 14 + 22M COST, 3 + 11M GRADIENT, 12 + 21M PROJECT, 1 + M DIRECTION and M TIME"
   pub costs : weighed (weigh onlyCost) (traceOf s u cs) ≤ 14 + 22 * s .«max_iter»
   pub gradients : weighed (weigh onlyGradient) (traceOf s u cs) ≤ 3 + 11 * s .«max_iter»
@@ -90,4 +90,4 @@ pub record InnerClaim (s : Settings) (u : List Float) (r : Run) (cs : List (Call
   -- "what is scored there is the solve's latest accepted PROJECT answer, and its norm is that of the residual, the latest GRADIENT's point minus this answer"
   pub scored : ScoresRight binary64 seen (traceOf s u cs)
   -- "Where it hands back a plan, that plan is .." what the lent u holds then
-  pub plan : Each (λ c before. (e : SolverStatus) → c .outcome ≡ Ended e → Hands s (scores (traceOf s u (c ∷ before))) e (c .wrote)) cs
+  pub plan : Each (λ c before. (e : SolverStatus) → c .outcome ≡ Ended e → InnerHands s (scores (traceOf s u (c ∷ before))) e (c .wrote)) cs

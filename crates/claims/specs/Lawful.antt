@@ -1,11 +1,11 @@
--- What a kind of run has to keep so that every list of its calls follows the process: its contract, in shared terms. Definitions, and two small laws. Assumes nothing.
-use Prim.Native.Nat.{ℕ, suc}
-use mathlib.Core.Path.{_≡_, sym, ap, _∙_}
+-- What a kind of run has to keep so that every list of its calls follows the process: its contract, in shared terms. Definitions, and small laws. Assumes nothing.
+use Prim.Native.Nat.{ℕ, zero, suc}
+use mathlib.Core.Path.{_≡_, refl, sym, ap, _∙_}
 use mathlib.Core.Bool.{true, false, true≢false}
 use mathlib.Core.Option.{some}
 use native.Mathlib.Omega.{arith}
 use Rattle.model.specs.Process.{Process, handed, refused, failed, ask, score, begin, stop}
-use Rattle.model.specs.Refusals.{remains}
+use Rattle.model.specs.Refusals.{remains, orRefused}
 use Rattle.model.specs.Carry.{endOf}
 use Rattle.claims.specs.History.{Runs, Call, Meets}
 use Rattle.claims.specs.Trace.{refusal, leadsTo}
@@ -30,6 +30,11 @@ pub record Reaches {Q H : Type 0} (k : Runs Q H) (s : k .Settings) (q : Process 
 pub data Gives {Q H : Type 0} (k : Runs Q H) (s : k .Settings) (q : Process Q H) : Type 0 where
   nothing : k .hands (k .said q) ≡ false → ((was : k .Lent) → k .written s q was ≡ was) → Gives k s q
   back : (h : H) → endOf q ≡ some (handed h) → k .said q ≡ k .said (stop (handed h)) → ((was : k .Lent) → k .written s q was ≡ k .written s (stop (handed h)) was) → Gives k s q
+
+-- so does one that has come to the same past other marks
+pub gives-as : {Q H : Type 0} (k : Runs Q H) (s : k .Settings) {q q′ : Process Q H} → endOf q′ ≡ endOf q → k .said q′ ≡ k .said q → ((was : k .Lent) → k .written s q′ was ≡ k .written s q was) → Gives k s q → Gives k s q′
+gives-as k s e f w (nothing a b) = nothing (ap (k .hands) f ∙ a) (λ was. w was ∙ b was)
+gives-as k s e f w (back h a b c) = back h (e ∙ a) (f ∙ b) (λ was. w was ∙ c was)
 
 -- the contract, in these terms, and what outcomes and lent places are
 pub record Lawful {Q H : Type 0} (k : Runs Q H) : Type 0 where
@@ -56,3 +61,9 @@ module _ {Q H : Type 0} (k : Runs Q H) (law : Lawful k) (s : k .Settings) where
       by : Gives k s (stop (refused m)) → k .hands (k .said (stop (refused m))) ≡ false
       by (nothing a b) = a
       by (back h a b c) = let z : _≡_ {A = ℕ} 0 1 = cc in absurd (omega arith)
+
+  -- a start that refuses by no number begins the process
+  pub begins : (m : ℕ) (p : Process Q H) (o : k .Outcome) → o ≡ k .said (orRefused m p) → k .number o ≡ 0 → orRefused m p ≡ p
+  unfolding orRefused refusedBy
+  begins zero p o e z = refl
+  begins (suc m) p o e z = absurd (omega (arith, ap (k .number) e, law .numbered (stop (refused (suc m))), z))

@@ -1,30 +1,30 @@
 -- Demand 3 for the multiplier loop. Definitions only.
 use Prim.Native.Nat.{ℕ, _+_, _*_, _-_, _≤_}
 use mathlib.Core.Path.{_≡_}
-use mathlib.Core.Bool.{Bool, true, false, _&&_}
+use mathlib.Core.Bool.{Bool, true, false}
 use mathlib.Core.List.{List, _∷_}
+use mathlib.Core.Option.{some}
 use mathlib.Core.Logic.{_⊎_}
-use lib.Dec.{eqb}
 use lib.Ieee.{Float, binary64, add, mul, lt, le}
 use lib.ListN.{length}
 use Rattle.model.specs.Constants.{epsilon}
 use Rattle.model.specs.Process.{LoopHanded}
 use Rattle.model.specs.Process as M
 use Rattle.model.specs.Loop.{xiOf, loop}
-use Rattle.model.specs.Refusals.{lentAfter, loopPlan, loopXi, xiLength, penaltyIn, multipliersIn}
+use Rattle.model.specs.Refusals.{lentAfter, loopPlan, loopXi, penaltyIn, multipliersIn}
 use Rattle.model.specs.Bounds.{worstCase}
 use Rattle.model.specs.Scoring.{seenInLoop}
 use Rattle.model.specs.Plans.{akktAt}
 use Rattle.panoc_core.specs.declared.panoc_cache.ExitStatus.the-variants.{Converged}
-use Rattle.panoc_core.specs.declared.panoc_cache.Reply.{Reply}
 use Rattle.alm_core.specs.declared.alm_cache.AlmSettings.{AlmSettings}
 use Rattle.alm_core.specs.declared.alm_cache.AlmOptimizerStatus.{AlmOptimizerStatus}
 use Rattle.alm_core.specs.declared.alm_cache.AlmOutcome.{AlmOutcome}
 use Rattle.alm_core.specs.declared.alm_cache.AlmOutcome.the-variants.{Asked, Ended, Refused, Failed}
 use Rattle.alm_core.specs.declared.alm_cache.AlmRun.{AlmRun}
-use Rattle.alm_core.specs.Values.{settingsOf, said}
+use Rattle.alm_core.specs.Values.{settingsOf, said, firstPoint, secondPoint}
+use Rattle.alm.specs.LoopCalls.{restOf, lentRight, Answers, asking, Points}
 use Rattle.claims.specs.History.{Runs, Call}
-use Rattle.claims.specs.Trace.{Event, trace}
+use Rattle.claims.specs.Trace.{left, Event, trace}
 use Rattle.claims.specs.Claim.{Each, Follows, ScoresRight, scores, tally, Plan}
 
 -- an outcome: whether a plan is handed back, and the number of a refusal
@@ -73,34 +73,35 @@ pub record LoopHands (s : AlmSettings) (es : List (Event M.LoopQuestion)) (e : A
   -- K is kept
   pub most : e .«num_outer_iterations» .0 ≤ s .«max_outer_iterations»
 
-module _ (Answers : AlmRun → Reply → List Float → Places → Places → AlmOutcome → AlmRun → Type 0) (rest : AlmRun → M.Loop) where
-  -- the calls of a loop, each of which lends u and xi
-  abbrev pub outer : Runs M.LoopQuestion LoopHanded
-  outer =
-      record {
-        Run = AlmRun;
-        Settings = AlmSettings;
-        Lent = Places;
-        Outcome = AlmOutcome;
-        Answers = Answers;
-        settings = λ run. run .alm .set;
-        rest = rest;
-        right = λ s w. eqb (length (w .u)) (s .n) && eqb (length (w .xi)) (xiLength (s .n1) (s .n2));
-        said = said;
-        written = λ s p w. record { u = lentAfter loopPlan p (w .u); xi = lentAfter (loopXi (settingsOf s)) p (w .xi) };
-        hands = handsPlan;
-        number = numberOf;
-      }
+-- the calls of a loop, each of which lends u and xi
+abbrev pub loopRuns : Runs M.LoopQuestion LoopHanded
+loopRuns =
+    record {
+      Run = AlmRun;
+      Settings = AlmSettings;
+      Lent = Places;
+      Outcome = AlmOutcome;
+      Answers = λ run a v w w′ o r. Answers run a v (w .u) (w′ .u) (w .xi) (w′ .xi) (record { outcome = o; run = r });
+      settings = λ run. run .alm .set;
+      rest = restOf;
+      right = λ s w. lentRight s (length (w .u)) (length (w .xi));
+      said = said;
+      written = λ s p w. record { u = lentAfter loopPlan p (w .u); xi = lentAfter (loopXi (settingsOf s)) p (w .xi) };
+      hands = handsPlan;
+      number = numberOf;
+    }
 
-  -- all that has happened in these calls
-  abbrev pub traceOf : AlmSettings → List Float → List Float → List (Call outer) → List (Event M.LoopQuestion)
-  traceOf s u xi cs = trace outer s (loopOf s u xi) cs
+-- all that has happened in these calls
+abbrev pub traceOf : AlmSettings → List Float → List Float → List (Call loopRuns) → List (Event M.LoopQuestion)
+traceOf s u xi cs = trace loopRuns s (loopOf s u xi) cs
 
-  -- "For every list of answers from an accepted start, whichever of them are refused and however wrong the model, projection or direction, and for every K outer and M inner iterations within the limits": the start with s, u and xi returned r, and the calls cs have led to t.
-  pub record LoopClaim (s : AlmSettings) (u xi : List Float) (r : AlmRun) (cs : List (Call outer)) (t : AlmRun) : Type 0 where
-    -- "the run asks, scores, refuses and ends as document 01 says; no more than K × (35 + 56 × M) + 1 answers are accepted, and after that many the run has ended"
-    pub follows : Follows outer s (loopOf s u xi) (worstCase (s .«max_outer_iterations») (s .«max_inner_iterations»)) r cs t
-    -- "what is scored there is the solve's latest accepted PROJECT answer, and its norm is that of the residual, the latest GRADIENT's point minus this answer"
-    pub scored : ScoresRight binary64 seenInLoop (traceOf s u xi cs)
-    -- "Where it hands back a plan, that plan is .." what the lent u holds then
-    pub plan : Each (λ c before. (e : AlmOptimizerStatus) → c .outcome ≡ Ended e → LoopHands s (traceOf s u xi (c ∷ before)) e (c .wrote)) cs
+-- "For every list of answers from an accepted start, whichever of them are refused and however wrong the model, projection or direction, and for every K outer and M inner iterations within the limits": the start with s, u and xi returned r, and the calls cs have led to t.
+pub record LoopClaim (s : AlmSettings) (u xi : List Float) (r : AlmRun) (cs : List (Call loopRuns)) (t : AlmRun) : Type 0 where
+  -- "the run asks, scores, refuses and ends as document 01 says; no more than K × (35 + 56 × M) + 1 answers are accepted, and after that many the run has ended"
+  pub follows : Follows loopRuns s (loopOf s u xi) (worstCase (s .«max_outer_iterations») (s .«max_inner_iterations»)) r cs t
+  -- its questions have document 01's points: those that the call `points` copies out of the run
+  pub points : (xs xs′ ys ys′ : List Float) → Points t xs xs′ ys ys′ 0 → (q : M.LoopQuestion) → asking (left loopRuns s (loopOf s u xi) cs) ≡ some q → (xs′ ≡ firstPoint q) × (ys′ ≡ secondPoint q)
+  -- "what is scored there is the solve's latest accepted PROJECT answer, and its norm is that of the residual, the latest GRADIENT's point minus this answer"
+  pub scored : ScoresRight binary64 seenInLoop (traceOf s u xi cs)
+  -- "Where it hands back a plan, that plan is .." what the lent u holds then
+  pub plan : Each (λ c before. (e : AlmOptimizerStatus) → c .outcome ≡ Ended e → LoopHands s (traceOf s u xi (c ∷ before)) e (c .wrote)) cs

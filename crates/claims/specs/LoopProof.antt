@@ -1,15 +1,14 @@
 -- Demand 3 holds for the multiplier loop. Assumes nothing.
-use Prim.Native.Nat.{ℕ, zero, suc, _≤_}
+use Prim.Native.Nat.{ℕ, _≤_}
 use mathlib.Core.Path.{_≡_, refl, sym, ap, _∙_, subst}
 use mathlib.Core.Bool.{true}
 use mathlib.Core.List.{List, [], _∷_}
 use native.Mathlib.Omega.{arith}
 use lib.Ieee.{Float, binary64}
-use lib.ListN.{length}
 use Rattle.model.specs.Process.{LoopHanded, handed, refused, failed, ask, score, begin, stop}
 use Rattle.model.specs.Process as M
-use Rattle.model.specs.Refusals.{loopRefusal, penaltyIn, multipliersIn, orRefused, startLoop, remains, lentAfter, lentAt, loopPlan, loopXi}
-use Rattle.model.specs.Bounds.{loop-at-most}
+use Rattle.model.specs.Refusals.{penaltyIn, multipliersIn, startLoop, remains, lentAfter, lentAt, loopPlan, loopXi}
+use Rattle.model.specs.Bounds.{at-most-more, worstCase, loop-at-most}
 use Rattle.model.specs.Scoring.{seenInLoop, nothingYet, tracing}
 use Rattle.model.specs.Counts.{counting, LoopCount}
 use Rattle.model.specs.Carry.{endOf}
@@ -17,21 +16,23 @@ use Rattle.model.specs.Plans.{scoring, Ends, LoopPlan}
 use Rattle.model.specs.Refusing.{Refuses, Among, loop-refuses}
 use Rattle.model.specs.Starts.{start-loop-ends}
 use Rattle.model.specs.EveryLoop.{loop-traced, loop-counted}
-use Rattle.panoc_core.specs.declared.panoc_cache.Reply.{Reply}
 use Rattle.panoc_core.specs.Values.{exitStatus}
 use Rattle.alm_core.specs.declared.alm_cache.AlmSettings.{AlmSettings}
 use Rattle.alm_core.specs.declared.alm_cache.AlmOptimizerStatus.{AlmOptimizerStatus}
-use Rattle.alm_core.specs.declared.alm_cache.AlmOutcome.{AlmOutcome}
-use Rattle.alm_core.specs.declared.alm_cache.AlmOutcome.the-variants.{Ended, Refused}
+use Rattle.alm_core.specs.declared.alm_cache.AlmOutcome.the-variants.{Ended}
 use Rattle.alm_core.specs.declared.alm_cache.AlmRun.{AlmRun}
+use Rattle.alm_core.specs.declared.alm_cache.AlmStepped.{AlmStepped}
+use Rattle.alm_core.specs.declared.alm_cache.AlmAnswered.{AlmAnswered}
 use Rattle.alm_core.specs.Values.{settingsOf, said}
-use Rattle.claims.specs.History.{Runs, Call, Meets, History}
+use Rattle.alm_core.specs.Rest.{LoopBoard}
+use Rattle.alm.specs.LoopCalls.{runOf, gave, Starts, Begins, asking}
+use Rattle.claims.specs.History.{Call, History}
 use Rattle.claims.specs.Trace.{refusal, leadsTo, left, Event}
 use Rattle.claims.specs.Claim.{scores, tally}
-use Rattle.claims.specs.Loop.{Places, numberOf, loopOf, LoopHands, LoopClaim, outer, traceOf}
-use Rattle.claims.specs.Lawful.{refusedBy, Reaches, Gives, nothing, back, Lawful}
+use Rattle.claims.specs.Loop.{Places, numberOf, loopOf, LoopHands, LoopClaim, loopRuns, traceOf}
+use Rattle.claims.specs.Lawful.{refusedBy, Gives, nothing, back, gives-as, Lawful, begins}
 use Rattle.claims.specs.Left.{scores-right, right-left}
-use Rattle.claims.specs.Follow.{After, follows, Back, each-both, each-back}
+use Rattle.claims.specs.Follow.{After, follow, follows, Back, each-both, each-back}
 use Rattle.claims.specs.Chosen.{plan-is, is-converged}
 
 -- ---- outcomes
@@ -89,80 +90,74 @@ hands-is s es h j e w p q o n z = subst (LoopHands s es e) (sym z) (subst (λ (d
           most = p .most;
         }
 
--- an accepted start has a number of 0
-accepted-start : (p : M.Loop) (m : ℕ) → ((j : ℕ) → said (orRefused m p) ≡ Refused j → ⊥) → m ≡ 0
-unfolding said orRefused
-accepted-start p zero n = refl
-accepted-start p (suc m) n = absurd (n (suc m) refl)
-
 beyond : (m : ℕ) → Among 10 18 m → 9 ≤ m
 beyond m z = omega (arith, z .0)
 
-module _ (Answers : AlmRun → Reply → List Float → Places → Places → AlmOutcome → AlmRun → Type 0) (rest : AlmRun → M.Loop) where
-  abbrev runs : Runs M.LoopQuestion LoopHanded
-  runs = outer Answers rest
+gives : (s : AlmSettings) (q : M.Loop) → Gives loopRuns s q
+unfolding said lentAfter lentAt endOf
+gives s (ask q k continue) = nothing refl (λ was. refl)
+gives s (score half norm p) = gives-as loopRuns s refl refl (λ was. refl) (gives s p)
+gives s (begin p) = gives-as loopRuns s refl refl (λ was. refl) (gives s p)
+gives s (stop (handed h)) = back h refl refl (λ was. refl)
+gives s (stop (refused m)) = nothing refl (λ was. refl)
+gives s (stop (failed c)) = nothing refl (λ was. refl)
 
-  gives : (s : AlmSettings) (q : M.Loop) → Gives runs s q
-  unfolding said lentAfter lentAt endOf
-  gives s (ask q k continue) = nothing refl (λ was. refl)
-  gives s (score half norm p) = by (gives s p)
-    where
-      by : Gives runs s p → Gives runs s (score half norm p)
-      by (nothing a b) = nothing a b
-      by (back h a b c) = back h a b c
-  gives s (begin p) = by (gives s p)
-    where
-      by : Gives runs s p → Gives runs s (begin p)
-      by (nothing a b) = nothing a b
-      by (back h a b c) = back h a b c
-  gives s (stop (handed h)) = back h refl refl (λ was. refl)
-  gives s (stop (refused m)) = nothing refl (λ was. refl)
-  gives s (stop (failed c)) = nothing refl (λ was. refl)
+places-is : {u u′ xi xi′ : List Float} → u ≡ u′ → xi ≡ xi′ → _≡_ {A = Places} (record { u = u; xi = xi }) (record { u = u′; xi = xi′ })
+places-is a b = cc
 
-  module _ (refuses : (r : AlmRun) (c : Call runs) → Meets runs r c → (m : ℕ) → refusal runs (r .alm .set) (rest r) c ≡ suc m → (c .outcome ≡ Refused (suc m)) × (c .run ≡ r) × (c .wrote ≡ c .lent))
-      (accepts : (r : AlmRun) (c : Call runs) → Meets runs r c → refusal runs (r .alm .set) (rest r) c ≡ 0 → Reaches runs (r .alm .set) (leadsTo runs (rest r) c) c) where
-    lawful : Lawful runs
-    unfolding said
-    lawful = record { refuses = refuses; accepts = accepts; numbered = numbered; gives = gives; hands = λ h. refl }
+lawful : Lawful loopRuns
+unfolding refusal leadsTo said
+lawful =
+    record {
+      refuses = λ r c meets m e. let no = meets .refused m e in (no .0, no .1, places-is (no .2) (no .3));
+      accepts = λ r c meets e. let to = meets .accepted e in record { settings = to .settings; outcome = to .outcome; process = to .process; wrote = places-is (to .plan) (to .xi) };
+      numbered = numbered;
+      gives = gives;
+      hands = λ h. refl;
+    }
 
-    module _ (s : AlmSettings) (u xi : List Float) (r : AlmRun) (settings : r .alm .set ≡ s) (process : rest r ≡ remains (startLoop binary64 (settingsOf s) u xi))
-        (begun : (m : ℕ) → said (startLoop binary64 (settingsOf s) u xi) ≡ Refused m → ⊥) where
-      abbrev p : M.Loop
-      p = loopOf s u xi
+module _ (s : AlmSettings) (u xi : List Float) (a : AlmAnswered) (starts : Starts s u xi a) (accepts : numberOf (a .outcome) ≡ 0) where
+  abbrev p : M.Loop
+  p = loopOf s u xi
 
-      none-refused : loopRefusal binary64 (settingsOf s) (length u) xi ≡ 0
-      unfolding startLoop
-      none-refused = accepted-start p _ begun
+  same-start : startLoop binary64 (settingsOf s) u xi ≡ p
+  unfolding startLoop
+  same-start = begins loopRuns lawful s _ p (a .outcome) (starts .outcome) accepts
 
-      same-start : startLoop binary64 (settingsOf s) u xi ≡ p
-      unfolding startLoop orRefused
-      same-start = rw none-refused
+  first : After loopRuns s p [] (a .run)
+  unfolding left
+  first = record { settings = starts .settings; rest = starts .process ∙ ap remains same-start }
 
-      first : After runs s p [] r
-      unfolding left
-      first = record { settings = settings; rest = process ∙ ap remains same-start }
+  ends : Ends (LoopPlan binary64 (settingsOf s)) [] p
+  ends = subst (Ends (LoopPlan binary64 (settingsOf s)) []) same-start (start-loop-ends binary64 (settingsOf s) u xi)
 
-      ends : Ends (LoopPlan binary64 (settingsOf s)) [] p
-      ends = subst (Ends (LoopPlan binary64 (settingsOf s)) []) same-start (start-loop-ends binary64 (settingsOf s) u xi)
+  refusing : Refuses (Among 10 18) p
+  refusing = loop-refuses binary64 (settingsOf s) u (penaltyIn xi) (multipliersIn xi)
 
-      refusing : Refuses (Among 10 18) p
-      refusing = loop-refuses binary64 (settingsOf s) u (penaltyIn xi) (multipliersIn xi)
+  hands-one : (c : Call loopRuns) (before : List (Call loopRuns)) → (loopRuns .hands (c .outcome) ≡ true → Back loopRuns s p scoring (LoopPlan binary64 (settingsOf s)) [] c before)
+      → (loopRuns .hands (c .outcome) ≡ true → Back loopRuns s p counting LoopCount (record { solves = 0; scores = 0 }) c before)
+      → (e : AlmOptimizerStatus) → c .outcome ≡ Ended e → LoopHands s (traceOf s u xi (c ∷ before)) e (c .wrote)
+  unfolding lentAfter lentAt loopPlan scores tally
+  hands-one c before x y e o =
+      let z = x (ap (loopRuns .hands) o) in
+      let w = y (ap (loopRuns .hands) o) in
+      hands-is s _ (z .what) (w .what) e (c .wrote) (z .holds) (w .holds) (said-status (z .what) e (sym (z .outcome) ∙ o)) (said-status (w .what) e (sym (w .outcome) ∙ o)) (z .wrote)
 
-      hands-one : (c : Call runs) (before : List (Call runs)) → (runs .hands (c .outcome) ≡ true → Back runs s p scoring (LoopPlan binary64 (settingsOf s)) [] c before)
-          → (runs .hands (c .outcome) ≡ true → Back runs s p counting LoopCount (record { solves = 0; scores = 0 }) c before)
-          → (e : AlmOptimizerStatus) → c .outcome ≡ Ended e → LoopHands s (traceOf Answers rest s u xi (c ∷ before)) e (c .wrote)
-      unfolding lentAfter lentAt loopPlan scores tally
-      hands-one c before a b e o =
-          let z = a (ap (runs .hands) o) in
-          let y = b (ap (runs .hands) o) in
-          hands-is s _ (z .what) (y .what) e (c .wrote) (z .holds) (y .holds) (said-status (z .what) e (sym (z .outcome) ∙ o)) (said-status (y .what) e (sym (y .outcome) ∙ o)) (z .wrote)
+  -- From an accepted start, whatever list of calls follows.
+  pub loop-claim : {cs : List (Call loopRuns)} {t : AlmRun} → History loopRuns (a .run) cs t → LoopClaim s u xi (a .run) cs t
+  unfolding worstCase
+  loop-claim {cs} h =
+      record {
+        follows = follows loopRuns lawful s p (Among 10 18) beyond refusing (a .run) first _
+            (at-most-more _ p _ _ (omega arith) (loop-at-most binary64 (settingsOf s) u (penaltyIn xi) (multipliersIn xi))) h;
+        points = λ xs xs′ ys ys′ z q e. z .points refl q (ap asking (follow loopRuns lawful s p (Among 10 18) beyond refusing (a .run) first h .rest) ∙ e);
+        scored = scores-right binary64 seenInLoop (traceOf s u xi cs) (right-left loopRuns s p (tracing binary64 seenInLoop) _ nothingYet (loop-traced binary64 (settingsOf s) u (penaltyIn xi) (multipliersIn xi)) cs);
+        plan = each-both _ _ _ hands-one cs (each-back loopRuns lawful s p (Among 10 18) beyond refusing (a .run) first scoring (LoopPlan binary64 (settingsOf s)) [] ends h)
+            (each-back loopRuns lawful s p (Among 10 18) beyond refusing (a .run) first counting LoopCount (record { solves = 0; scores = 0 }) (loop-counted binary64 (settingsOf s) u (penaltyIn xi) (multipliersIn xi)) h);
+      }
 
-      -- From an accepted start, whatever list of calls follows.
-      pub loop-claim : {cs : List (Call runs)} {t : AlmRun} → History runs r cs t → LoopClaim Answers rest s u xi r cs t
-      loop-claim {cs} h =
-          record {
-            follows = follows runs lawful s p (Among 10 18) beyond refusing r first _ (loop-at-most binary64 (settingsOf s) u (penaltyIn xi) (multipliersIn xi)) h;
-            scored = scores-right binary64 seenInLoop (traceOf Answers rest s u xi cs) (right-left runs s p (tracing binary64 seenInLoop) _ nothingYet (loop-traced binary64 (settingsOf s) u (penaltyIn xi) (multipliersIn xi)) cs);
-            plan = each-both _ _ _ hands-one cs (each-back runs lawful s p (Among 10 18) beyond refusing r first scoring (LoopPlan binary64 (settingsOf s)) [] ends h)
-                (each-back runs lawful s p (Among 10 18) beyond refusing r first counting LoopCount (record { solves = 0; scores = 0 }) (loop-counted binary64 (settingsOf s) u (penaltyIn xi) (multipliersIn xi)) h);
-          }
+-- The same from an accepted start in place, whose vectors are those of the board b.
+pub loop-claim-in-place : (s : AlmSettings) (u xi : List Float) (a : AlmStepped) (b : LoopBoard) → Begins s u xi a b → numberOf (a .outcome) ≡ 0
+    → {cs : List (Call loopRuns)} {t : AlmRun} → History loopRuns (runOf (a .alm) b) cs t → LoopClaim s u xi (runOf (a .alm) b) cs t
+loop-claim-in-place s u xi a b starts accepts h =
+    loop-claim s u xi (gave a b) (record { settings = starts .settings; outcome = starts .outcome; process = starts .process }) accepts h

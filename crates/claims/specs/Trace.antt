@@ -75,8 +75,11 @@ watched w x (began ∷ es) = w .begun (watched w x es)
 -- ---- accepted answers
 
 -- "Accepted is what gets none of 6 to 8"
+unfoldable pub sixToEight : ℕ → Bool
+sixToEight m = leb 6 m && leb m 8
+
 unfoldable pub turnedDown : {Q H : Type 0} → (k : Runs Q H) → Call k → Bool
-turnedDown k c = leb 6 (k .number (c .outcome)) && leb (k .number (c .outcome)) 8
+turnedDown k c = sixToEight (k .number (c .outcome))
 
 -- how many were accepted
 unfoldable pub accepted : {Q H : Type 0} → (k : Runs Q H) → List (Call k) → ℕ
