@@ -9,7 +9,7 @@ use borrow.Author.Tests.{lt-leb}
 use lib.Dec.{leb}
 use lib.ListN.{length}
 use Rattle.model.specs.Process.{Kind, Process, handed, refused, failed, ask, score, begin, stop}
-use Rattle.model.specs.Refusals.{Reply, wanted, fitsKind, fitsLength, answerRefusal, orRefused}
+use Rattle.model.specs.Refusals.{Reply, wanted, fitsKind, fitsLength, answerRefusal, remains, orRefused}
 use Rattle.model.specs.Bounds.{AtMost}
 use Rattle.model.specs.Paths.{Watch, Along}
 use Rattle.model.specs.Carry.{at-most-ended}
@@ -40,6 +40,24 @@ table-down (some k) r vs lent m e = by (fitsKind k r) (fitsLength k r vs && lent
     by true true w = absurd (omega arith)
     by true false w = down-by m 8 w refl
     by false b w = down-by m 7 w refl
+
+-- ---- ended
+
+module _ {Q H : Type 0} (k : Runs Q H) (law : Lawful k) where
+  -- a run that waits for nothing has ended
+  over : (t : k .Run) → wanted (k .rest t) ≡ none → Over k t
+  unfolding refusal answerRefusal refusedBy
+  over t e c meets =
+      let same = law .refuses t c meets 5 (ap (λ (z : Option Kind). answerRefusal z (replyOf (c .reply)) (length (c .vector)) (k .right (k .settings t) (c .lent))) e) in
+      (ap (k .number) (same .0) ∙ law .numbered (stop (refused 6)), (same .1, same .2))
+
+  -- a start that the table refuses: its number, and no run
+  pub no-run : (j m : ℕ) (p : Process Q H) (o : k .Outcome) (r : k .Run) → o ≡ k .said (orRefused j p) → k .rest r ≡ remains (orRefused j p) → j ≡ suc m → (o ≡ k .said (stop (refused (suc m)))) × Over k r
+  unfolding orRefused remains wanted
+  no-run j m p o r e f z = (
+    e ∙ ap (λ (i : ℕ). k .said (orRefused i p)) z,
+    over r (ap wanted (f ∙ ap (λ (i : ℕ). remains (orRefused i p)) z)),
+  )
 
 -- ---- a list of calls
 
@@ -187,13 +205,6 @@ module _ {Q H : Type 0} (k : Runs Q H) (law : Lawful k) (s : k .Settings) (p : P
     counted begun = sym (weighed-passed (λ q. 1) p [])
     counted (more {t = t} {cs = cs} h c meets) = one cs t (follow h) c meets .count (counted h)
 
-    -- a run that waits for nothing has ended
-    over : (t : k .Run) → wanted (k .rest t) ≡ none → Over k t
-    unfolding refusal answerRefusal refusedBy
-    over t e c meets =
-        let same = law .refuses t c meets 5 (ap (λ (z : Option Kind). answerRefusal z (replyOf (c .reply)) (length (c .vector)) (k .right (k .settings t) (c .lent))) e) in
-        (ap (k .number) (same .0) ∙ law .numbered (stop (refused 6)), (same .1, same .2))
-
     -- where a call hands something back, P holds of it and of all that happened
     pub each-back : {S : Type 0} (w : Watch Q S) (R : S → H → Type 0) (x : S) → Along w R x p → {cs : List (Call k)} {t : k .Run} → History k r cs t
         → Each (λ c before. k .hands (c .outcome) ≡ true → Back k s p w R x c before) cs
@@ -217,7 +228,7 @@ module _ {Q H : Type 0} (k : Runs Q H) (law : Lawful k) (s : k .Settings) (p : P
             kept = each-one _ (λ ds u c e o. o .kept) h;
             counted = counted h;
             bound = omega (arith, counted h, held .0);
-            ended = λ e. over t (ap wanted (follow h .rest) ∙ at-most-ended (left k s p cs) (subst (AtMost (λ q. 1) (left k s p cs)) (omega (arith, counted h, e)) (held .1)));
+            ended = λ e. over k law t (ap wanted (follow h .rest) ∙ at-most-ended (left k s p cs) (subst (AtMost (λ q. 1) (left k s p cs)) (omega (arith, counted h, e)) (held .1)));
           }
         where
           held : (weighed (λ q. 1) (trace k s p cs) ≤ b) × AtMost (λ q. 1) (left k s p cs) (b - weighed (λ q. 1) (trace k s p cs))

@@ -74,6 +74,7 @@ pub record InnerHands (s : Settings) (scores : List Scored) (e : SolverStatus) (
   pub converged : e .«exit_status» ≡ Converged → lt (e .«norm_fpr») (s .tolerance) ≡ true
   -- "iterations (steps after the first)": each step scores once, the first one too, and the end once more
   pub iterations : length scores ≡ e .iterations .0 + 2
+  pub most : e .iterations .0 ≤ s .«max_iter»
 
 -- "For every list of answers from an accepted start, whichever of them are refused and however wrong the model, projection or direction, and for every .. M inner iterations within the limits": the start with s and u returned r, and the calls cs have led to t.
 pub record InnerClaim (s : Settings) (u : List Float) (r : Run) (cs : List (Call innerRuns)) (t : Run) : Type 0 where

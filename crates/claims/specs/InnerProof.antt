@@ -1,13 +1,14 @@
 -- Demand 3 holds for an inner solve used alone. Assumes nothing.
-use Prim.Native.Nat.{ℕ, _≤_}
+use Prim.Native.Nat.{ℕ, suc, _≤_}
 use mathlib.Core.Path.{_≡_, refl, sym, ap, _∙_, subst}
 use mathlib.Core.Bool.{true}
 use mathlib.Core.List.{List, [], _∷_}
 use native.Mathlib.Omega.{arith}
 use lib.Ieee.{Float, binary64}
+use lib.ListN.{length}
 use Rattle.model.specs.Process.{Handed, Solve, handed, refused, failed, ask, score, begin, stop}
 use Rattle.model.specs.Inner.{solve}
-use Rattle.model.specs.Refusals.{startInner, remains, lentAfter, lentAt, planOf}
+use Rattle.model.specs.Refusals.{innerRefusal, startInner, remains, lentAfter, lentAt, planOf}
 use Rattle.model.specs.Bounds.{AtMost, at-most-more, Weights, weigh, onlyCost, onlyGradient, onlyProject, onlyDirection, onlyTime, solve-questions-at-most, solve-cost-at-most, solve-gradient-at-most, solve-project-at-most, solve-direction-at-most, solve-time-at-most}
 use Rattle.model.specs.Scoring.{seen, nothingYet, tracing}
 use Rattle.model.specs.Carry.{endOf}
@@ -18,7 +19,7 @@ use Rattle.model.specs.Starts.{start-inner-ends}
 use Rattle.model.specs.EverySolve.{solve-traced}
 use Rattle.panoc_core.specs.declared.panoc_cache.Settings.{Settings}
 use Rattle.panoc_core.specs.declared.panoc_cache.SolverStatus.{SolverStatus}
-use Rattle.panoc_core.specs.declared.panoc_cache.Outcome.the-variants.{Ended}
+use Rattle.panoc_core.specs.declared.panoc_cache.Outcome.the-variants.{Ended, Refused}
 use Rattle.panoc_core.specs.declared.panoc_cache.Run.{Run}
 use Rattle.panoc_core.specs.declared.panoc_cache.Stepped.{Stepped}
 use Rattle.panoc_core.specs.declared.panoc_cache.Answered.{Answered}
@@ -28,10 +29,10 @@ use Rattle.panoc_core.specs.Board.{Board, runOf, gave, Begins}
 use Rattle.panoc.specs.Calls.{Starts, asking}
 use Rattle.claims.specs.History.{Call, History}
 use Rattle.claims.specs.Trace.{refusal, leadsTo, weighed, left, scored}
-use Rattle.claims.specs.Claim.{scores}
+use Rattle.claims.specs.Claim.{Over, scores}
 use Rattle.claims.specs.Lawful.{refusedBy, Gives, nothing, back, gives-as, Lawful, begins}
 use Rattle.claims.specs.Left.{scores-right, right-left, within-left}
-use Rattle.claims.specs.Follow.{After, follow, follows, Back, each-each, each-back}
+use Rattle.claims.specs.Follow.{no-run, After, follow, follows, Back, each-each, each-back}
 use Rattle.claims.specs.Chosen.{plan-is, is-converged}
 use Rattle.claims.specs.Inner.{numberOf, innerRuns, solveOf, traceOf, InnerHands, InnerClaim}
 
@@ -74,7 +75,7 @@ unfolding said
 hands-is s es h e u p o w = subst (λ (v : List Float). InnerHands s es e v) (sym w) (subst (λ (d : SolverStatus). InnerHands s es d (h .plan)) same of)
   where
     of : InnerHands s es (record { «exit_status» = exitStatus (h .status); iterations = record { 0 = h .iterations }; «norm_fpr» = h .norm; «cost_value» = h .cost }) (h .plan)
-    of = record { plan = plan-is (p .plan); converged = λ z. p .converged (is-converged (h .status) z); iterations = p .steps }
+    of = record { plan = plan-is (p .plan); converged = λ z. p .converged (is-converged (h .status) z); iterations = p .steps; most = p .within }
 
     same : record { «exit_status» = exitStatus (h .status); iterations = record { 0 = h .iterations }; «norm_fpr» = h .norm; «cost_value» = h .cost } ≡ e
     same = cc
@@ -127,3 +128,8 @@ pub inner-claim-in-place : (s : Settings) (u : List Float) (a : Stepped) (b : Bo
     → {cs : List (Call innerRuns)} {t : Run} → History innerRuns (runOf (a .solve) b) cs t → InnerClaim s u (runOf (a .solve) b) cs t
 inner-claim-in-place s u a b starts accepts h =
     inner-claim s u (gave a b) (record { settings = starts .settings; outcome = starts .outcome; process = starts .process }) accepts h
+
+-- A start that the table refuses: its number, and no run.
+pub inner-no-run : (s : Settings) (u : List Float) (a : Answered) → Starts s u a → (m : ℕ) → innerRefusal (settingsOf s) (length u) ≡ suc m → (a .outcome ≡ Refused (suc m)) × Over innerRuns (a .run)
+unfolding startInner said
+inner-no-run s u a starts m e = no-run innerRuns lawful _ m (solveOf s u) (a .outcome) (a .run) (starts .outcome) (starts .process) e

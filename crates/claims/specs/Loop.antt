@@ -70,7 +70,8 @@ pub record LoopHands (s : AlmSettings) (es : List (Event M.LoopQuestion)) (e : A
   pub outer : e .«num_outer_iterations» .0 ≡ tally es .solves
   -- "Inner iterations are counted over all solves": each step after the first scores once; each solve also scores at its first step and at its end
   pub inner : e .«num_inner_iterations» .0 + 2 * tally es .solves ≡ tally es .scores
-  -- K is kept
+  -- at least one, at most K
+  pub least : 1 ≤ e .«num_outer_iterations» .0
   pub most : e .«num_outer_iterations» .0 ≤ s .«max_outer_iterations»
 
 -- the calls of a loop, each of which lends u and xi

@@ -1,13 +1,14 @@
 -- Demand 3 holds for the multiplier loop. Assumes nothing.
-use Prim.Native.Nat.{ℕ, _≤_}
+use Prim.Native.Nat.{ℕ, suc, _≤_}
 use mathlib.Core.Path.{_≡_, refl, sym, ap, _∙_, subst}
 use mathlib.Core.Bool.{true}
 use mathlib.Core.List.{List, [], _∷_}
 use native.Mathlib.Omega.{arith}
 use lib.Ieee.{Float, binary64}
+use lib.ListN.{length}
 use Rattle.model.specs.Process.{LoopHanded, handed, refused, failed, ask, score, begin, stop}
 use Rattle.model.specs.Process as M
-use Rattle.model.specs.Refusals.{penaltyIn, multipliersIn, startLoop, remains, lentAfter, lentAt, loopPlan, loopXi}
+use Rattle.model.specs.Refusals.{loopRefusal, penaltyIn, multipliersIn, startLoop, remains, lentAfter, lentAt, loopPlan, loopXi}
 use Rattle.model.specs.Bounds.{at-most-more, worstCase, loop-at-most}
 use Rattle.model.specs.Scoring.{seenInLoop, nothingYet, tracing}
 use Rattle.model.specs.Counts.{counting, LoopCount}
@@ -19,7 +20,7 @@ use Rattle.model.specs.EveryLoop.{loop-traced, loop-counted}
 use Rattle.panoc_core.specs.Values.{exitStatus}
 use Rattle.alm_core.specs.declared.alm_cache.AlmSettings.{AlmSettings}
 use Rattle.alm_core.specs.declared.alm_cache.AlmOptimizerStatus.{AlmOptimizerStatus}
-use Rattle.alm_core.specs.declared.alm_cache.AlmOutcome.the-variants.{Ended}
+use Rattle.alm_core.specs.declared.alm_cache.AlmOutcome.the-variants.{Ended, Refused}
 use Rattle.alm_core.specs.declared.alm_cache.AlmRun.{AlmRun}
 use Rattle.alm_core.specs.declared.alm_cache.AlmStepped.{AlmStepped}
 use Rattle.alm_core.specs.declared.alm_cache.AlmAnswered.{AlmAnswered}
@@ -28,11 +29,11 @@ use Rattle.alm_core.specs.Rest.{LoopBoard}
 use Rattle.alm.specs.LoopCalls.{runOf, gave, Starts, Begins, asking}
 use Rattle.claims.specs.History.{Call, History}
 use Rattle.claims.specs.Trace.{refusal, leadsTo, left, Event}
-use Rattle.claims.specs.Claim.{scores, tally}
+use Rattle.claims.specs.Claim.{Over, scores, tally}
 use Rattle.claims.specs.Loop.{Places, numberOf, loopOf, LoopHands, LoopClaim, loopRuns, traceOf}
 use Rattle.claims.specs.Lawful.{refusedBy, Gives, nothing, back, gives-as, Lawful, begins}
 use Rattle.claims.specs.Left.{scores-right, right-left}
-use Rattle.claims.specs.Follow.{After, follow, follows, Back, each-both, each-back}
+use Rattle.claims.specs.Follow.{no-run, After, follow, follows, Back, each-both, each-back}
 use Rattle.claims.specs.Chosen.{plan-is, is-converged}
 
 -- ---- outcomes
@@ -87,6 +88,7 @@ hands-is s es h j e w p q o n z = subst (LoopHands s es e) (sym z) (subst (λ (d
           multipliers = (h .multipliers, p .size, refl);
           outer = sym same ∙ q .solves;
           inner = omega (arith, same-inner, q .scores);
+          least = p .least;
           most = p .most;
         }
 
@@ -161,3 +163,8 @@ pub loop-claim-in-place : (s : AlmSettings) (u xi : List Float) (a : AlmStepped)
     → {cs : List (Call loopRuns)} {t : AlmRun} → History loopRuns (runOf (a .alm) b) cs t → LoopClaim s u xi (runOf (a .alm) b) cs t
 loop-claim-in-place s u xi a b starts accepts h =
     loop-claim s u xi (gave a b) (record { settings = starts .settings; outcome = starts .outcome; process = starts .process }) accepts h
+
+-- A start that the table refuses: its number, and no run.
+pub loop-no-run : (s : AlmSettings) (u xi : List Float) (a : AlmAnswered) → Starts s u xi a → (m : ℕ) → loopRefusal binary64 (settingsOf s) (length u) xi ≡ suc m → (a .outcome ≡ Refused (suc m)) × Over loopRuns (a .run)
+unfolding startLoop said
+loop-no-run s u xi a starts m e = no-run loopRuns lawful _ m (loopOf s u xi) (a .outcome) (a .run) (starts .outcome) (starts .process) e
