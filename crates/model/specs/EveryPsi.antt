@@ -1,14 +1,13 @@
 -- Every way through d_psi: it hands back n numbers. Assumes nothing.
 use mathlib.Core.Path.{_≡_}
-use mathlib.Core.Bool.{cond}
 use mathlib.Core.List.{List, []}
 use lib.Dec.{eqb}
 use lib.Ieee.{Float, Format}
 use lib.ListN.{length}
 use Rattle.model.specs.Psi.{Sizes, dPsi, dPsiGradient, dPsiF1, dPsiC, dPsiJf1, dPsiAskF2, dPsiF2, dPsiJf2}
 use Rattle.model.specs.Facts.{plus-times-size}
-use Rattle.model.specs.Paths.{Along, along-cond}
-use Rattle.model.specs.Plans.{scoring, Ends}
+use Rattle.model.specs.Paths.{along-cond}
+use Rattle.model.specs.Plans.{Ends}
 
 module _ (f : Format) (s : Sizes) (u : List Float) (c : Float) (y : List Float) where
   f2-ends : (g : List Float) → length g ≡ s .n → Ends (λ scores r. length r ≡ s .n) [] (dPsiAskF2 f s u c y g)

@@ -13,7 +13,7 @@ use Rattle.model.specs.Constants.{maxLipschitzConstant, maxLipschitzUpda
 use Rattle.model.specs.Vectors.{allFinite}
 use Rattle.model.specs.Process.{Answer, handed, refused, failed, Process, ask, score, begin, stop, within, Status, converged, notConvergedIterations, notConvergedOutOfTime, Solve, Loop}
 use Rattle.model.specs.State.{Settings, Iterate, State, counted}
-use Rattle.model.specs.Inner.{Next, ceiling, passes, entered, begun, finish, lastTest, lastCost, onward, firstMove, firstCost, firstGradient, firstProject, triedProject, triedGradient, triedCost, trial, retry, search, directed, askDirection, doubledCost, doubledProject, doubling, halfCost, tested, step, standing, timed, laps, solve, startCost, startGradient, startShifted, startProject}
+use Rattle.model.specs.Inner.{Next, ceiling, passes, entered, finish, lastTest, lastCost, onward, firstMove, firstCost, firstGradient, firstProject, triedProject, triedGradient, triedCost, trial, retry, search, directed, askDirection, doubledCost, doubledProject, doubling, halfCost, tested, step, timed, laps, solve, startCost, startGradient, startShifted, startProject}
 use Rattle.model.specs.Loop.{LoopSettings, LoopState, Found}
 use Rattle.model.specs.Loop as Outer
 use Rattle.model.specs.Psi.{Sizes}
