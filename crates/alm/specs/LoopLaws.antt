@@ -415,7 +415,7 @@ lent-both s us xs e = by (eqb us (s .n)) (eqb xs (xiLength (s .n1) (s .n2))) ref
     by true false p q w = bit (sym w)
     by false d p q w = bit (sym w)
 
-xi-at : (s : AlmSettings) (c : Float) (y xs : List Float) → length xs ≡ xiLength (s .n1) (s .n2) → xiGiven c y xs ≡ xiOf (settingsOf s) c (firsts (s .n1) y)
+pub xi-at : (s : AlmSettings) (c : Float) (y xs : List Float) → length xs ≡ xiLength (s .n1) (s .n2) → xiGiven c y xs ≡ xiOf (settingsOf s) c (firsts (s .n1) y)
 unfolding xiGiven xiOf
 xi-at s c y xs e = by (eqb (s .n1) 0) (eqb (s .n2) 0) refl refl xs e
   where
