@@ -302,7 +302,7 @@ module _ (f : Format) (s : LoopSettings) where
     inner-at-most : (st : LoopState) → AtMost (λ q. 1) (Outer.innerSolve f s next st) (30 + 56 * s .limit + (n + 3))
     unfolding Outer.innerSolve Outer.solved Outer.innerSettings
     inner-at-most st =
-        at-most-within (λ q. 1) _ (Outer.solved f s next st) (n + 3) (λ h. f1-at-most _) (solve f (Outer.innerSettings s st) (st .u)) _
+        at-most-within (λ q. 1) _ (Outer.solved f s next (Outer.carriedOf st)) (n + 3) (λ h. f1-at-most _) (solve f (Outer.innerSettings s st) (st .u)) _
         (solve-questions-at-most f (Outer.innerSettings s st) (st .u))
 
     iteration-at-most : (st : LoopState) → AtMost (λ q. 1) (Outer.iteration f s next st) (34 + 56 * s .limit + n)

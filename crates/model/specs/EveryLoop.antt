@@ -16,7 +16,7 @@ use Rattle.model.specs.Constants.{epsilon}
 use Rattle.model.specs.Vectors.{minus}
 use Rattle.model.specs.Process.{inner, Status, converged, notConvergedIterations, notConvergedOutOfTime, LoopHanded, Loop}
 use Rattle.model.specs.Inner.{solve}
-use Rattle.model.specs.Loop.{LoopSettings, LoopState, Found, xiOf, penaltyOf, withY, innerSettings, exits, nextAkkt, concluded, conclude, counted, weighed, gotF2, askF2, gotC, gotF1, askF1, solved, innerSolve, gotY, iteration, outOfTime, timed, begins, iterations, firstState, loop}
+use Rattle.model.specs.Loop.{LoopSettings, LoopState, Carried, carriedOf, Found, xiOf, penaltyOf, withY, innerSettings, exits, nextAkkt, concluded, conclude, counted, weighed, gotF2, askF2, gotC, gotF1, askF1, solved, innerSolve, gotY, iteration, outOfTime, timed, begins, iterations, firstState, loop}
 use Rattle.model.specs.Facts.{and-left, and-right, or-else, iterations-not, time-not, minus-size, plus-times-size}
 use Rattle.model.specs.Paths.{both, Along, along-cond, along-within, along-left, along-right}
 use Rattle.model.specs.Scoring.{seenInLoop, nothingYet, after, vectorIn, tracing, Traced}
@@ -124,7 +124,7 @@ module _ (f : Format) (s : LoopSettings) where
     -- ---- an iteration after k others
     module _ (k : ℕ) (l : k + 1 ≤ s .outer) (next : Status → LoopState → Loop) (go : (e : Status) (x : Trail) (st : LoopState) → Done (k + 1) x st → Ready (k + 1) st → Good x (next e st)) where
       -- its inner solve, begun at `from`, is over
-      record Round (x : Trail) (from : LoopState) (e : Status) (plan : List Float) (norm : Float) (steps : ℕ) : Type 0 where
+      record Round (x : Trail) (from : Carried) (e : Status) (plan : List Float) (norm : Float) (steps : ℕ) : Type 0 where
         outer : from .outer ≡ k
         solves : x .1 .1 .solves ≡ k + 1
         scores : from .inner + steps + 2 * (k + 1) ≡ x .1 .1 .scores
@@ -174,7 +174,7 @@ module _ (f : Format) (s : LoopSettings) where
       inner-good : (x : Trail) (st : LoopState) → Done k x st → Ready k st → Good x (innerSolve f s next st)
       unfolding innerSolve solved innerSettings seenInLoop
       inner-good x st d y =
-          along-within (watching f seenInLoop) (SolveEnd (innerSettings s st) G (k + 1) (x .1 .1 .scores)) (LoopEnd f s G) (inner (xiOf s (st .c) (st .y))) (solved f s next st) (λ z h e.
+          along-within (watching f seenInLoop) (SolveEnd (innerSettings s st) G (k + 1) (x .1 .1 .scores)) (LoopEnd f s G) (inner (xiOf s (st .c) (st .y))) (solved f s next (carriedOf st)) (λ z h e.
           f1-good z _ (record {
             outer = d .outer;
             solves = e .solves;

@@ -3,6 +3,7 @@ use Prim.Native.Nat.{ℕ, zero, suc, _+_, _≤_}
 use mathlib.Core.Path.{_≡_, refl, sym, ap, _∙_}
 use mathlib.Core.Bool.{Bool, true, _&&_}
 use mathlib.Core.List.{List, [], _∷_, _++_}
+use mathlib.Core.Option.{some}
 use native.Mathlib.Omega.{arith}
 use lib.Dec.{T, eqb}
 use lib.Ieee.{Float, Format, lt}
@@ -57,12 +58,12 @@ module _ (f : Format) (s : Settings) (G : Type 0) (positive : G → T (upward (s
 
   -- u is the latest GRADIENT's point and `half` the latest PROJECT answer
   record Sync (x : Latest) (u half : List Float) : Type 0 where
-    point : u ≡ x .point
-    answer : half ≡ x .answer
+    point : x .point ≡ some u
+    answer : x .answer ≡ some half
     size : G → length u ≡ s .n
     sizeHalf : length half ≡ s .n
 
-  in-sync : (u half : List Float) → (G → length u ≡ s .n) → length half ≡ s .n → Sync (record { point = u; answer = half }) u half
+  in-sync : (u half : List Float) → (G → length u ≡ s .n) → length half ≡ s .n → Sync (record { point = some u; answer = some half }) u half
   in-sync u half p q = record { point = refl; answer = refl; size = p; sizeHalf = q }
 
   module _ (x : Trail) (u half : List Float) (y : Sync (x .0) u half) where
@@ -70,7 +71,7 @@ module _ (f : Format) (s : Settings) (G : Type 0) (positive : G → T (upward (s
     new = norm f (minus f u half)
 
     scored-right : watching f seen .right x half new
-    scored-right = ((y .answer, ap (λ (v : List Float). norm f (minus f v half)) (y .point)), (tt, tt))
+    scored-right = (record { answer = y .answer; from = u; point = y .point; norm = refl }, (tt, tt))
 
     scored-sum : (m : ℕ) (best : Best) → Sum m (x .1 .0) (x .1 .1) best
         → Sum (m + 1) (x .1 .0 ++ (record { half = half; norm = new } ∷ [])) (record { solves = x .1 .1 .solves; scores = x .1 .1 .scores + 1 }) (keep best half new)

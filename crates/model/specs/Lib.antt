@@ -17,7 +17,9 @@ pub mod Counts
 pub mod Plans
 pub mod EverySolve
 pub mod EveryLoop
+pub mod EveryPsi
 pub mod Carry
+pub mod Refusing
 pub mod Starts
 pub mod Script
 pub mod Runs

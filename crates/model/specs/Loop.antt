@@ -45,9 +45,19 @@ pub record LoopState : Type 0 where
   pub outer : ℕ
   pub inner : ℕ
 
--- What an outer iteration has found so far: the state that it began with, y projected; the inner solve's end, plan, norm and iterations; y_plus and the infeasibilities, 0 where absent.
+-- What an outer iteration carries on while its inner solve runs: c, y projected, the AKKT tolerance, the former infeasibilities, the counts.
+pub record Carried : Type 0 where
+  pub c : Float
+  pub y : List Float
+  pub akkt : Float
+  pub deltaY : Float
+  pub f2 : Float
+  pub outer : ℕ
+  pub inner : ℕ
+
+-- What an outer iteration has found so far: what it carried on; the inner solve's end, plan, norm and iterations; y_plus and the infeasibilities, 0 where absent.
 pub record Found : Type 0 where
-  pub from : LoopState
+  pub from : Carried
   pub status : Status
   pub plan : List Float
   pub norm : Float
@@ -66,6 +76,9 @@ penaltyOf s c = cond (eqb (s .n1) 0 && eqb (s .n2) 0) null c
 
 abbrev pub withY : List Float → LoopState → LoopState
 withY y st = record { u = st .u; c = st .c; y = y; akkt = st .akkt; yPlus = st .yPlus; deltaY = st .deltaY; f2 = st .f2; norm = st .norm; outer = st .outer; inner = st .inner }
+
+abbrev pub carriedOf : LoopState → Carried
+carriedOf st = record { c = st .c; y = st .y; akkt = st .akkt; deltaY = st .deltaY; f2 = st .f2; outer = st .outer; inner = st .inner }
 
 abbrev pub withMultipliers : List Float → Float → Found → Found
 withMultipliers y x r = record { from = r .from; status = r .status; plan = r .plan; norm = r .norm; iterations = r .iterations; yPlus = y; deltaY = x; f2 = r .f2 }
@@ -173,13 +186,13 @@ module _ (f : Format) (s : LoopSettings) where
 
   -- ---- an outer iteration
 
-  unfoldable pub solved : (Status → LoopState → Loop) → LoopState → Handed → Loop
-  solved next st h =
-      askF1 next (record { from = st; status = h .status; plan = h .plan; norm = h .norm; iterations = h .iterations; yPlus = st .y; deltaY = null; f2 = null })
+  unfoldable pub solved : (Status → LoopState → Loop) → Carried → Handed → Loop
+  solved next from h =
+      askF1 next (record { from = from; status = h .status; plan = h .plan; norm = h .norm; iterations = h .iterations; yPlus = from .y; deltaY = null; f2 = null })
 
   -- "inner solve": its questions carry xi
   unfoldable pub innerSolve : (Status → LoopState → Loop) → LoopState → Loop
-  innerSolve next st = within (inner (xiOf s (st .c) (st .y))) (solved next st) (solve f (innerSettings s st) (st .u))
+  innerSolve next st = within (inner (xiOf s (st .c) (st .y))) (solved next (carriedOf st)) (solve f (innerSettings s st) (st .u))
 
   -- "project y on Y"
   unfoldable pub gotY : (Status → LoopState → Loop) → LoopState → List Float → Loop

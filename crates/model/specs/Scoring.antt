@@ -1,6 +1,7 @@
 -- What is scored: document 01, "what is scored there is the solve's latest accepted PROJECT answer, and its norm is that of the residual, the latest GRADIENT's point minus this answer". Definitions only.
 use mathlib.Core.Path.{_≡_}
 use mathlib.Core.List.{List, []}
+use mathlib.Core.Option.{Option, none, some}
 use lib.Ieee.{Float, Format}
 use Rattle.ieee.specs.Sums.{norm}
 use Rattle.model.specs.Vectors.{minus}
@@ -30,14 +31,14 @@ seenInLoop (LoopQuestion.projectC v) = other
 seenInLoop (LoopQuestion.f2 u) = other
 seenInLoop (LoopQuestion.cost u xi) = other
 
--- the latest GRADIENT's point, and the latest PROJECT answer
+-- the solve's latest GRADIENT's point, and its latest PROJECT answer
 pub record Latest : Type 0 where
-  pub point : List Float
-  pub answer : List Float
+  pub point : Option (List Float)
+  pub answer : Option (List Float)
 
 -- where an inner solve begins there is neither
 unfoldable pub nothingYet : Latest
-nothingYet = record { point = []; answer = [] }
+nothingYet = record { point = none; answer = none }
 
 -- the vector answered; none where the answer is no vector
 unfoldable pub vectorIn : (k : Kind) → Answer k → List Float
@@ -47,9 +48,16 @@ vectorIn (direction n) v = v
 vectorIn decision b = []
 
 unfoldable pub after : Seen → List Float → Latest → Latest
-after (gradientAt p) v x = record { point = p; answer = x .answer }
-after projects v x = record { point = x .point; answer = v }
+after (gradientAt p) v x = record { point = some p; answer = x .answer }
+after projects v x = record { point = x .point; answer = some v }
 after other v x = x
+
+-- half is the latest PROJECT answer, and y the norm of the latest GRADIENT's point minus it
+pub record Residual (f : Format) (x : Latest) (half : List Float) (y : Float) : Type 0 where
+  pub answer : x .answer ≡ some half
+  pub from : List Float
+  pub point : x .point ≡ some from
+  pub norm : y ≡ norm f (minus f from half)
 
 -- each scored half step is the latest PROJECT answer, its norm that of the latest GRADIENT's point minus it
 abbrev pub tracing : {Q : Type 0} → Format → (Q → Seen) → Watch Q Latest
@@ -58,7 +66,7 @@ tracing f view =
       answered = λ x q k a. after (view q) (vectorIn k a) x;
       scored = λ x half y. x;
       begun = λ x. nothingYet;
-      right = λ x half y. (half ≡ x .answer) × (y ≡ norm f (minus f (x .point) half));
+      right = λ x half y. Residual f x half y;
     }
 
 abbrev pub Traced : {Q H : Type 0} → Format → (Q → Seen) → Latest → Process Q H → Type 0

@@ -37,6 +37,7 @@ use Rattle.panoc_core.specs.declared.refusals.Wanted.the-variants as W
 use Rattle.panoc_core.specs.Values.{akktOf, replyOf, kindOf, decided, said, settingsOf, firstPoint, secondPoint, questionOf}
 use Rattle.panoc_core.specs.Rest.{rest, resume, sound}
 use Rattle.panoc_core.specs.Board.{Board, runOf, gave, given, Comes, Takes, Sound, setOf, endOf, nextAt, iterateAt, atPhase, stepped, wantedAt, wantedOf, wantsVector, setU, Begins, begun, waiting, firstPlaces, secondPlaces, firstAt}
+use Rattle.panoc.specs.Points.{Facts, facts-at, asking-none, asking-some, waiting-kind}
 use Rattle.panoc.specs.Calls.{Answers, Reaches, Points, Starts, asking, pointsRefusal}
 use Rattle.panoc_core.specs.Laws.{rest-at, rest-sound, rest-over, sound-n, sound-made}
 use Rattle.panoc_core.specs.Wanted.{wanted-is, wanted-sound, refusal-zero, begun-sound, begun-rest}
@@ -175,56 +176,6 @@ some-same : {A : Type 0} {a c : A} → some a ≡ some c → a ≡ c
 some-same e = cc
 
 -- ---- points
-abbrev Facts : Run → Phase → Option M.Question → Type 0
-Facts r p none = Unit {0}
-Facts r p (some q) =
-    (length (firstPoint q) ≡ firstPlaces (r .solve .set .n) p)
-    × (length (secondPoint q) ≡ secondPlaces (r .solve .set .n) p)
-    × ((xs : List Float) → length xs ≡ firstPlaces (r .solve .set .n) p → firstAt r p xs ≡ firstPoint q)
-    × (secondPoint q ≡ firsts (secondPlaces (r .solve .set .n) p) (r .u))
-
-empty : (xs : List Float) → length xs ≡ 0 → xs ≡ []
-empty [] e = refl
-empty (x ∷ xs) e = absurd (omega arith)
-
-facts-at : (r : Run) (p : Phase) → Facts r p (asking (resume r p))
-unfolding asking resume firsts
-facts-at r P.Cost = (length-firsts _ _, refl, λ xs e. refl, refl)
-facts-at r P.Gradient = (length-firsts _ _, refl, λ xs e. refl, refl)
-facts-at r P.Shifted = (length-firsts _ _, refl, λ xs e. refl, refl)
-facts-at r P.Project = (length-firsts _ _, refl, λ xs e. refl, refl)
-facts-at r P.HalfCost = (length-firsts _ _, refl, λ xs e. refl, refl)
-facts-at r P.DoubledProject = (length-firsts _ _, refl, λ xs e. refl, refl)
-facts-at r P.DoubledCost = (length-firsts _ _, refl, λ xs e. refl, refl)
-facts-at r P.Direction = (length-firsts _ _, length-firsts _ _, λ xs e. refl, refl)
-facts-at r P.FirstCost = (length-firsts _ _, refl, λ xs e. refl, refl)
-facts-at r P.FirstGradient = (length-firsts _ _, refl, λ xs e. refl, refl)
-facts-at r P.FirstProject = (length-firsts _ _, refl, λ xs e. refl, refl)
-facts-at r P.TriedCost = (length-firsts _ _, refl, λ xs e. refl, refl)
-facts-at r P.TriedGradient = (length-firsts _ _, refl, λ xs e. refl, refl)
-facts-at r P.TriedProject = (length-firsts _ _, refl, λ xs e. refl, refl)
-facts-at r P.Time = (refl, refl, empty, refl)
-facts-at r P.LastCost = (length-firsts _ _, refl, λ xs e. refl, refl)
-facts-at r P.Over = tt
-
-asking-none : (p : M.Solve) → waiting (wanted p) ≡ false → asking p ≡ none
-unfolding wanted asking
-asking-none (ask q k c) e = absurd (omega (arith, ap {B = ℕ} (λ (c : Bool). cond c 1 0) e))
-asking-none (score h x p) e = refl
-asking-none (begin p) e = refl
-asking-none (stop x) e = refl
-
-asking-some : (p : M.Solve) → waiting (wanted p) ≡ true → (q : M.Question) × (asking p ≡ some q)
-unfolding wanted asking
-asking-some (ask q k c) e = (q, refl)
-asking-some (score h x p) e = absurd (omega (arith, ap {B = ℕ} (λ (c : Bool). cond c 1 0) e))
-asking-some (begin p) e = absurd (omega (arith, ap {B = ℕ} (λ (c : Bool). cond c 1 0) e))
-asking-some (stop x) e = absurd (omega (arith, ap {B = ℕ} (λ (c : Bool). cond c 1 0) e))
-
-waiting-kind : (w : Option Kind) → waiting w ≡ true → (k : Kind) × (w ≡ some k)
-waiting-kind none e = absurd (omega (arith, ap {B = ℕ} (λ (c : Bool). cond c 1 0) e))
-waiting-kind (some k) e = (k, refl)
-
 pub waits-as : (s : Solve) (w w′ : Wanted) → kindOf w ≡ wantedOf s → w ≡ w′ → waiting (kindOf w′) ≡ waiting (wantedOf s)
 waits-as s w w′ e q = ap (λ (z : Wanted). waiting (kindOf z)) (sym q) ∙ ap waiting e
 
@@ -283,45 +234,6 @@ module _ (s : Solve) (b : Board) (xs ys : List Float) (t : Bool) (te : t ≡ wai
               let z≡ : question .0 ≡ z = some-same (sym (question .1) ∙ w) in
               (x ∙ facts .2 xs g ∙ ap firstPoint z≡, y ∙ ap (λ (n : ℕ). firsts n (b .u)) h ∙ sym (facts .3) ∙ ap secondPoint z≡);
         }
-
--- the points have at most n places
-pub first-fits : (n : ℕ) (p : Phase) → firstPlaces n p ≤ n
-first-fits n P.Cost = omega arith
-first-fits n P.Gradient = omega arith
-first-fits n P.Shifted = omega arith
-first-fits n P.Project = omega arith
-first-fits n P.HalfCost = omega arith
-first-fits n P.DoubledProject = omega arith
-first-fits n P.DoubledCost = omega arith
-first-fits n P.Direction = omega arith
-first-fits n P.FirstCost = omega arith
-first-fits n P.FirstGradient = omega arith
-first-fits n P.FirstProject = omega arith
-first-fits n P.TriedCost = omega arith
-first-fits n P.TriedGradient = omega arith
-first-fits n P.TriedProject = omega arith
-first-fits n P.Time = omega arith
-first-fits n P.LastCost = omega arith
-first-fits n P.Over = omega arith
-
-pub second-fits : (n : ℕ) (p : Phase) → secondPlaces n p ≤ n
-second-fits n P.Cost = omega arith
-second-fits n P.Gradient = omega arith
-second-fits n P.Shifted = omega arith
-second-fits n P.Project = omega arith
-second-fits n P.HalfCost = omega arith
-second-fits n P.DoubledProject = omega arith
-second-fits n P.DoubledCost = omega arith
-second-fits n P.Direction = omega arith
-second-fits n P.FirstCost = omega arith
-second-fits n P.FirstGradient = omega arith
-second-fits n P.FirstProject = omega arith
-second-fits n P.TriedCost = omega arith
-second-fits n P.TriedGradient = omega arith
-second-fits n P.TriedProject = omega arith
-second-fits n P.Time = omega arith
-second-fits n P.LastCost = omega arith
-second-fits n P.Over = omega arith
 
 -- the first point, at a phase
 pub point-at : (s : Solve) (b : Board) (p : Phase) (xs xs′ w : List Float) → s .phase ≡ p → length xs ≡ firstPlaces (s .set .n) (s .phase) → firstPlaces (s .set .n) p ≡ s .set .n

@@ -33,6 +33,7 @@ pub fn dot(a: &[f64], b: &[f64]) -> f64 {
 }
 
 /// True where the number minus itself equals 0.
+#[allow(clippy::eq_op)]
 pub fn is_finite(x: f64) -> bool {
     x - x == 0.0
 }

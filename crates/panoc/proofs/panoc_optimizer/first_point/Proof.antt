@@ -1,6 +1,7 @@
 use native.Mathlib.Omega.{arith}
 use mathlib.Core.Path.{refl}
-use Rattle.panoc.proofs.CallLaws.{first-fits, point-at, point-stays}
+use Rattle.panoc.proofs.CallLaws.{point-at, point-stays}
+use Rattle.panoc.specs.Points.{first-fits}
 use Rattle.panoc_core.specs.Board.{asked}
 use Rattle.panoc_core.specs.declared.panoc_cache.Phase.the-variants as P
 use borrow.Author.Needs.{needs}

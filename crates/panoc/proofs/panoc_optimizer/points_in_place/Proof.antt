@@ -1,6 +1,7 @@
 use native.Mathlib.Omega.{arith}
 use mathlib.Core.Path.{_∙_}
-use Rattle.panoc.proofs.CallLaws.{waiting-sound, second-fits, points-over, points-first, points-second, points-given}
+use Rattle.panoc.proofs.CallLaws.{waiting-sound, points-over, points-first, points-second, points-given}
+use Rattle.panoc.specs.Points.{second-fits}
 use Rattle.panoc_core.specs.Laws.{sound-n}
 use Rattle.panoc_core.specs.Board.{asked}
 use mathlib.Core.Path.{sym}

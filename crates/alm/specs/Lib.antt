@@ -1,0 +1,4 @@
+pub mod LoopCalls
+pub mod LoopLaws
+pub mod LoopPoints
+pub mod LoopPointLaws

@@ -1,0 +1,455 @@
+// The public calls of the multiplier loop: a run hands out a question and takes an answer.
+ghost use mathlib.Core.Path.{_≡_};
+ghost use mathlib.Core.List.{_∷_};
+ghost use Prim.Native.Nat.{_+_, _-_, _≤_};
+ghost use lib.Dec.{eqb};
+ghost use lib.Ieee.{binary64};
+ghost use lib.ListN.{length};
+ghost use Rattle.matrix_operations.specs.Firsts.{firsts};
+ghost use Rattle.model.specs.Refusals as R;
+ghost use Rattle.alm_core.specs.Values.{settingsOf};
+ghost use Rattle.alm_core.specs.Rest.{LoopBoard};
+ghost use Rattle.alm_core.specs.Board.{given, setU, setY, setYPlus};
+ghost use Rattle.alm.specs.LoopCalls.{before, after, runOf, gave, lentRight, xiGiven, xiHanded, tolerancesRight, factorsRight, limitsRight, firstAlm, Answers, Starts, Begins};
+use crate::alm_answers::take;
+use crate::alm_answers::wants;
+use alm_core::alm_cache::Alm;
+use alm_core::alm_cache::AlmAnswered;
+use alm_core::alm_cache::AlmNumbers;
+use alm_core::alm_cache::AlmOutcome;
+use alm_core::alm_cache::AlmPhase;
+use alm_core::alm_cache::AlmRun;
+use alm_core::alm_cache::AlmSettings;
+use alm_core::alm_cache::AlmStepped;
+use alm_core::alm_cache::OuterIterations;
+use alm_core::alm_steps::begins;
+use alm_core::alm_steps::stops;
+use panoc::panoc_optimizer::limit_right;
+use panoc::panoc_optimizer::sizes_right;
+use panoc::panoc_optimizer::tolerance_right;
+use panoc_core::panoc_cache::AkktTolerance;
+use panoc_core::panoc_cache::ExitStatus;
+use panoc_core::panoc_cache::InnerIterations;
+use panoc_core::panoc_cache::Reply;
+use panoc_core::panoc_cache::Settings;
+use panoc_core::refusals::refusal;
+
+// Whether so many places hold the penalty and n1 multipliers.
+pub fn holds(n1: usize, places: usize) -> bool
+    ensures { λ r. ⌜ r ≡ eqb places (n1 + 1) ⌝ }
+{
+    if places == 0 { false } else { places - 1 == n1 }
+}
+
+// Whether a xi of so many places is empty where n1 = n2 = 0, and else has the penalty and n1 multipliers.
+pub fn xi_fits(n1: usize, n2: usize, places: usize) -> bool
+    ensures { λ r. ⌜ r ≡ eqb places (R.xiLength n1 n2) ⌝ }
+{
+    if n1 == 0 {
+        if n2 == 0 {
+            places == 0
+        } else {
+            holds(n1, places)
+        }
+    } else {
+        holds(n1, places)
+    }
+}
+
+// Whether the lent u and xi have the lengths asked.
+pub fn lent_fits(set: AlmSettings, us: usize, places: usize) -> bool
+    ensures { λ r. ⌜ r ≡ lentRight set us places ⌝ }
+{
+    if us == set.n {
+        xi_fits(set.n1, set.n2, places)
+    } else {
+        false
+    }
+}
+
+// The plan of an end goes from u into the lent slice.
+pub fn hand_out(outcome: AlmOutcome, u: &[f64; 64], plan: &mut [f64])
+    requires { ⌜ length (now plan) ≤ 64 ⌝ }
+    ensures { λ _. ⌜ now (plan .exit) ≡ given outcome (firsts (length (now (plan .entry))) (now (u .entry))) (now (plan .entry)) ⌝ }
+{
+    match outcome {
+        AlmOutcome::Ended(_) => matrix_operations::give(u, plan),
+        AlmOutcome::Asked(_) => {}
+        AlmOutcome::Refused(_) => {}
+        AlmOutcome::Failed(_) => {}
+    }
+}
+
+// The penalty goes into place 0 of xi, and the multipliers into the part from place 1 on.
+pub fn give_xi(penalty: f64, y: &[f64; 64], xi: &mut [f64])
+    requires { ⌜ (1 ≤ length (now xi)) × (length (now xi) ≤ 33) ⌝ }
+    ensures { λ _. ⌜ now (xi .exit) ≡ penalty ∷ firsts (length (now (xi .entry)) - 1) (now (y .entry)) ⌝ }
+{
+    xi[0] = penalty;
+    matrix_operations::give(y, &mut xi[1..]);
+}
+
+// The same, of a xi that may be empty.
+pub fn fill_xi(penalty: f64, y: &[f64; 64], xi: &mut [f64])
+    requires { ⌜ length (now xi) ≤ 33 ⌝ }
+    ensures { λ _. ⌜ now (xi .exit) ≡ xiGiven penalty (now (y .entry)) (now (xi .entry)) ⌝ }
+{
+    if xi.len() == 0 {
+        return;
+    }
+    give_xi(penalty, y, xi);
+}
+
+// The penalty and the multipliers of an end go into the lent xi.
+pub fn hand_out_xi(outcome: AlmOutcome, plus: &[f64; 64], xi: &mut [f64])
+    requires { ⌜ length (now xi) ≤ 33 ⌝ }
+    ensures { λ _. ⌜ now (xi .exit) ≡ xiHanded outcome (now (plus .entry)) (now (xi .entry)) ⌝ }
+{
+    match outcome {
+        AlmOutcome::Ended(status) => fill_xi(status.penalty, plus, xi),
+        AlmOutcome::Asked(_) => {}
+        AlmOutcome::Refused(_) => {}
+        AlmOutcome::Failed(_) => {}
+    }
+}
+
+// An answer to the question of a run in place: the plan and the multipliers go into the lent slices.
+pub fn answer_in_place(
+    s: Alm,
+    a: Reply,
+    v: &[f64],
+    plan: &mut [f64],
+    xi: &mut [f64],
+    u: &mut [f64; 64],
+    candidate: &mut [f64; 64],
+    gradient: &mut [f64; 64],
+    previous: &mut [f64; 64],
+    step: &mut [f64; 64],
+    half: &mut [f64; 64],
+    fpr: &mut [f64; 64],
+    direction: &mut [f64; 64],
+    best: &mut [f64; 64],
+    y: &mut [f64; 64],
+    plus: &mut [f64; 64],
+    w: &mut [f64; 64],
+) -> AlmStepped
+    ensures { λ r. ⌜ Answers (runOf s (before u candidate gradient previous step half fpr direction best y plus w)) a (now (v .entry)) (now (plan .entry)) (now (plan .exit)) (now (xi .entry)) (now (xi .exit)) (gave r (after u candidate gradient previous step half fpr direction best y plus w)) ⌝ }
+{
+    let fits = lent_fits(s.set, plan.len(), xi.len());
+    let number = refusal(wants(s), a, v.len(), fits);
+    if number == 0 {
+        let r = take(
+            s,
+            a,
+            v,
+            u,
+            candidate,
+            gradient,
+            previous,
+            step,
+            half,
+            fpr,
+            direction,
+            best,
+            y,
+            plus,
+            w,
+        );
+        let outcome = r.outcome;
+        hand_out(outcome, u, plan);
+        hand_out_xi(outcome, plus, xi);
+        r
+    } else {
+        AlmStepped {
+            outcome: AlmOutcome::Refused(number),
+            alm: s,
+        }
+    }
+}
+
+// An answer to the question of a run by value.
+pub fn answer(run: AlmRun, a: Reply, v: &[f64], plan: &mut [f64], xi: &mut [f64]) -> AlmAnswered
+    ensures { λ r. ⌜ Answers run a (now (v .entry)) (now (plan .entry)) (now (plan .exit)) (now (xi .entry)) (now (xi .exit)) r ⌝ }
+{
+    let s = run.alm;
+    let mut u = run.u;
+    let mut candidate = run.u_plus;
+    let mut gradient = run.gradient_u;
+    let mut previous = run.gradient_u_previous;
+    let mut step = run.gradient_step;
+    let mut half = run.u_half_step;
+    let mut fpr = run.gamma_fpr;
+    let mut direction = run.direction_lbfgs;
+    let mut best = run.best_u_half_step;
+    let mut y = run.y;
+    let mut plus = run.y_plus;
+    let mut w = run.w_alm_aux;
+    let r = answer_in_place(
+        s,
+        a,
+        v,
+        plan,
+        xi,
+        &mut u,
+        &mut candidate,
+        &mut gradient,
+        &mut previous,
+        &mut step,
+        &mut half,
+        &mut fpr,
+        &mut direction,
+        &mut best,
+        &mut y,
+        &mut plus,
+        &mut w,
+    );
+    let outcome = r.outcome;
+    let alm = r.alm;
+    let run = AlmRun {
+        alm,
+        u,
+        u_plus: candidate,
+        gradient_u: gradient,
+        gradient_u_previous: previous,
+        gradient_step: step,
+        u_half_step: half,
+        gamma_fpr: fpr,
+        direction_lbfgs: direction,
+        best_u_half_step: best,
+        y,
+        y_plus: plus,
+        w_alm_aux: w,
+    };
+    AlmAnswered { outcome, run }
+}
+
+// n1 and n2 at most 32, a xi of the length asked, and a set Y only where n1 > 0.
+pub fn mappings_right(n1: usize, n2: usize, with: bool, places: usize) -> bool
+    ensures { λ r. ⌜ r ≡ R.mappingsRight n1 n2 with places ⌝ }
+{
+    if 32 < n1 {
+        return false;
+    }
+    if 32 < n2 {
+        return false;
+    }
+    if xi_fits(n1, n2, places) {
+        if with { n1 != 0 } else { true }
+    } else {
+        false
+    }
+}
+
+// Finite and at least 1.
+pub fn factor_right(x: f64) -> bool
+    ensures { λ r. ⌜ r ≡ R.factorRight binary64 x ⌝ }
+{
+    if numeric::is_finite(x) {
+        1.0 <= x
+    } else {
+        false
+    }
+}
+
+// Strictly between 0 and 1.
+pub fn fraction_right(x: f64) -> bool
+    ensures { λ r. ⌜ r ≡ R.fractionRight binary64 x ⌝ }
+{
+    if 0.0 < x { x < 1.0 } else { false }
+}
+
+// The tolerances.
+pub fn tolerances_right(set: AlmSettings) -> bool
+    ensures { λ r. ⌜ r ≡ tolerancesRight set ⌝ }
+{
+    if tolerance_right(set.tolerance) {
+        if tolerance_right(set.epsilon_tolerance) {
+            if tolerance_right(set.delta_tolerance) {
+                tolerance_right(set.initial_inner_tolerance)
+            } else {
+                false
+            }
+        } else {
+            false
+        }
+    } else {
+        false
+    }
+}
+
+// The factors and the coefficient.
+pub fn factors_right(set: AlmSettings) -> bool
+    ensures { λ r. ⌜ r ≡ factorsRight set ⌝ }
+{
+    if factor_right(set.penalty_update_factor) {
+        if fraction_right(set.epsilon_update_factor) {
+            fraction_right(set.sufficient_decrease_coeff)
+        } else {
+            false
+        }
+    } else {
+        false
+    }
+}
+
+// c finite and above 0, and every y finite.
+pub fn xi_right(xi: &[f64]) -> bool
+    ensures { λ r. ⌜ r ≡ R.xiRight (now (xi .entry)) ⌝ }
+{
+    if xi.len() == 0 {
+        return true;
+    }
+    if tolerance_right(xi[0]) {
+        matrix_operations::is_finite_in(&xi[1..])
+    } else {
+        false
+    }
+}
+
+// The number of the start's refusal, 1 to 5, and 0 for none.
+pub fn start_refusal(set: AlmSettings, us: usize, xi: &[f64]) -> u32
+    ensures { λ r. ⌜ r ≡ R.loopRefusal binary64 (settingsOf set) us (now (xi .entry)) ⌝ }
+{
+    if sizes_right(set.n, us) {
+        if mappings_right(set.n1, set.n2, set.has_set_y, xi.len()) {
+            if limits_right(set) {
+                if tolerances_right(set) {
+                    if factors_right(set) {
+                        if xi_right(xi) { 0 } else { 5 }
+                    } else {
+                        4
+                    }
+                } else {
+                    4
+                }
+            } else {
+                3
+            }
+        } else {
+            2
+        }
+    } else {
+        1
+    }
+}
+
+// M and K.
+pub fn limits_right(set: AlmSettings) -> bool
+    ensures { λ r. ⌜ r ≡ limitsRight set ⌝ }
+{
+    if limit_right(10000, set.max_inner_iterations) {
+        limit_right(1000, set.max_outer_iterations)
+    } else {
+        false
+    }
+}
+
+// The penalty of a xi, 0 where it is empty.
+pub fn penalty_in(xi: &[f64]) -> f64
+    ensures { λ r. ⌜ r ≡ R.penaltyIn (now (xi .entry)) ⌝ }
+{
+    if xi.len() == 0 { 0.0 } else { xi[0] }
+}
+
+// The multipliers of a xi into an array.
+pub fn multipliers_in(xi: &[f64], y: &mut [f64; 64])
+    requires { ⌜ length (now xi) ≤ 33 ⌝ }
+    ensures { λ _. ⌜ firsts (length (R.multipliersIn (now (xi .entry)))) (now (y .exit)) ≡ R.multipliersIn (now (xi .entry)) ⌝ }
+{
+    if xi.len() == 0 {
+        return;
+    }
+    matrix_operations::take_into(&xi[1..], y);
+}
+
+// The small part of a run before its first outer iteration, with so many left after it.
+pub fn first(set: AlmSettings, penalty: f64, left: usize) -> Alm
+    ensures { λ r. ⌜ r ≡ firstAlm set penalty left ⌝ }
+{
+    let akkt_tolerance = AkktTolerance::Set(set.initial_inner_tolerance);
+    let inner_set = Settings {
+        n: set.n,
+        max_iter: set.max_inner_iterations,
+        limited: set.limited,
+        tolerance: set.tolerance,
+        akkt_tolerance,
+    };
+    let solve = panoc::panoc_optimizer::begin(inner_set);
+    let numbers = AlmNumbers {
+        penalty,
+        akkt_tolerance: set.initial_inner_tolerance,
+        delta_y_norm: 0.0,
+        f2_norm: 0.0,
+        delta_y_norm_plus: 0.0,
+        f2_norm_plus: 0.0,
+        norm_fpr: 0.0,
+    };
+    let outer = OuterIterations(0);
+    let inner = InnerIterations(0);
+    let found = InnerIterations(0);
+    Alm {
+        phase: AlmPhase::Over,
+        set,
+        numbers,
+        left,
+        outer,
+        inner,
+        found,
+        status: ExitStatus::Converged,
+        solve,
+    }
+}
+
+// A run in place that is begun at first and xi, or its refusal.
+pub fn start_in_place(
+    set: AlmSettings,
+    plan: &[f64],
+    xi: &[f64],
+    u: &mut [f64; 64],
+    y: &mut [f64; 64],
+    plus: &mut [f64; 64],
+) -> AlmStepped
+    ensures { λ r. ⌜ ((b : LoopBoard) → Begins set (now (plan .entry)) (now (xi .entry)) r (setU (now (u .exit)) (setY (now (y .exit)) (setYPlus (now (plus .exit)) b)))) ⌝ }
+{
+    let number = start_refusal(set, plan.len(), xi);
+    let penalty = penalty_in(xi);
+    if number == 0 {
+        matrix_operations::take_into(plan, u);
+        multipliers_in(xi, y);
+        multipliers_in(xi, plus);
+        let s = first(set, penalty, set.max_outer_iterations - 1);
+        begins(s)
+    } else {
+        let s = first(set, penalty, 0);
+        stops(s, number)
+    }
+}
+
+// A run by value that is begun at u and xi, or its refusal.
+pub fn start(set: AlmSettings, u: &[f64], xi: &[f64]) -> AlmAnswered
+    ensures { λ r. ⌜ Starts set (now (u .entry)) (now (xi .entry)) r ⌝ }
+{
+    let mut v = matrix_operations::zeros();
+    let mut y = matrix_operations::zeros();
+    let mut plus = matrix_operations::zeros();
+    let r = start_in_place(set, u, xi, &mut v, &mut y, &mut plus);
+    let outcome = r.outcome;
+    let alm = r.alm;
+    let zeros = matrix_operations::zeros();
+    let run = AlmRun {
+        alm,
+        u: v,
+        u_plus: zeros,
+        gradient_u: zeros,
+        gradient_u_previous: zeros,
+        gradient_step: zeros,
+        u_half_step: zeros,
+        gamma_fpr: zeros,
+        direction_lbfgs: zeros,
+        best_u_half_step: zeros,
+        y,
+        y_plus: plus,
+        w_alm_aux: zeros,
+    };
+    AlmAnswered { outcome, run }
+}

@@ -1,0 +1,5 @@
+pub mod Values
+pub mod Rest
+pub mod Board
+pub mod Laws
+pub mod Handed

@@ -1,0 +1,11 @@
+pub mod History
+pub mod Trace
+pub mod Claim
+pub mod Inner
+pub mod Loop
+pub mod Lawful
+pub mod Left
+pub mod Follow
+pub mod Chosen
+pub mod InnerProof
+pub mod LoopProof

@@ -1,0 +1,1 @@
+// Demand 3 for every list of calls: see specs/.

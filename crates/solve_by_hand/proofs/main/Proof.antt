@@ -1,0 +1,62 @@
+-- `solve_by_hand::main` is safe and ends. The measure is the number of turns that are left. Assumes nothing.
+use native.Mathlib.Omega.{arith}
+use borrow.Author.Needs.{needs}
+use Rattle.solve_by_hand.proofs.main.Statement.{statement}
+use Rattle.solve_by_hand.proofs.main.Tie as tie
+
+abbrev Inv-loop : tie.InvT-loop
+Inv-loop plan₀ last₀ turns₀ plan last turns = Unit {0}
+
+abbrev μ-loop : tie.MeasureT-loop
+μ-loop plan₀ last₀ turns₀ plan last turns = turns
+
+slice-aggregate-start : tie.Need-slice-aggregate-start Inv-loop μ-loop
+slice-aggregate-start c = search needs
+
+start-requires : tie.Need-start-requires Inv-loop μ-loop
+start-requires c κs = tt
+
+loop-holds : tie.Need-loop-holds Inv-loop μ-loop
+loop-holds c = tt
+
+enum-known-outcome : tie.Need-enum-known-outcome Inv-loop μ-loop
+enum-known-outcome c = search needs
+
+print-outcome-requires : tie.Need-print-outcome-requires Inv-loop μ-loop
+print-outcome-requires c κs = tt
+
+returns : tie.Need-returns Inv-loop μ-loop
+returns c = tt
+
+turn-requires : tie.Need-turn-requires Inv-loop μ-loop
+turn-requires c κs = tt
+
+sub-turns : tie.Need-sub-turns Inv-loop μ-loop
+sub-turns c = omega arith
+
+loop-less : tie.Need-loop-less Inv-loop μ-loop
+loop-less c = omega arith
+
+loop-again : tie.Need-loop-again Inv-loop μ-loop
+loop-again c = tt
+
+returns-2 : tie.Need-returns-2 Inv-loop μ-loop
+returns-2 c = tt
+
+pub main-spec : {M : Type 1} → statement M
+main-spec =
+    tie.close
+    (tie.spec
+    Inv-loop
+    μ-loop
+    slice-aggregate-start
+    start-requires
+    loop-holds
+    enum-known-outcome
+    print-outcome-requires
+    returns
+    turn-requires
+    sub-turns
+    loop-less
+    loop-again
+    returns-2)

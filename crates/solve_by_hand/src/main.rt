@@ -1,0 +1,198 @@
+// A quadratic with a box, solved by hand; tests/solve_by_hand.py made its stdout from what the Rust prints (`oracle expect`).
+use libc::STDOUT_FILENO;
+use panoc::panoc_optimizer::answer;
+use panoc::panoc_optimizer::points;
+use panoc::panoc_optimizer::start;
+use panoc_core::panoc_cache::AkktTolerance;
+use panoc_core::panoc_cache::Answered;
+use panoc_core::panoc_cache::ExitStatus;
+use panoc_core::panoc_cache::Outcome;
+use panoc_core::panoc_cache::Question;
+use panoc_core::panoc_cache::Reply;
+use panoc_core::panoc_cache::Run;
+use panoc_core::panoc_cache::Settings;
+use panoc_core::panoc_cache::SolverStatus;
+
+// The pattern that stands for every NaN.
+const QUIET: u64 = 9221120237041090560;
+
+// ½ × q × (u - c)²
+fn term(q: f64, u: f64, c: f64) -> f64 {
+    let d = u - c;
+    0.5 * q * d * d
+}
+
+// The cost at u: the curvatures are 1, 2 and 8, the centre (3, -1, 0.25).
+fn cost(u: [f64; 3]) -> f64 {
+    term(1.0, u[0], 3.0) + term(2.0, u[1], -1.0) + term(8.0, u[2], 0.25)
+}
+
+fn gradient(u: [f64; 3]) -> [f64; 3] {
+    let x = u[0] - 3.0;
+    let y = 2.0 * (u[1] + 1.0);
+    let z = 8.0 * (u[2] - 0.25);
+    [x, y, z]
+}
+
+fn clamp(x: f64, low: f64, high: f64) -> f64 {
+    if x < low {
+        return low;
+    }
+    if high < x { high } else { x }
+}
+
+// The nearest point of the box: -0.5 to 2 at the second place, -2 to 2 at the others.
+fn project(p: [f64; 3]) -> [f64; 3] {
+    let x = clamp(p[0], -2.0, 2.0);
+    let y = clamp(p[1], -0.5, 2.0);
+    let z = clamp(p[2], -2.0, 2.0);
+    [x, y, z]
+}
+
+fn to_bits(x: f64) -> u64 {
+    if x != x {
+        return QUIET;
+    }
+    f64::to_bits(x)
+}
+
+fn print_float(x: f64) {
+    io::write_all(STDOUT_FILENO, b" ");
+    io::print_hex(STDOUT_FILENO, to_bits(x), 16);
+}
+
+fn print_vector(v: [f64; 3]) {
+    print_float(v[0]);
+    print_float(v[1]);
+    print_float(v[2]);
+}
+
+fn print_line(name: &[u8], v: [f64; 3]) {
+    io::write_all(STDOUT_FILENO, name);
+    print_vector(v);
+    io::write_all(STDOUT_FILENO, b"\n");
+}
+
+// The point of a question that has one.
+fn point(run: Run) -> [f64; 3] {
+    let mut first = [0.0; 3];
+    let mut second = [0.0; 0];
+    points(run, &mut first, &mut second);
+    first
+}
+
+fn on_cost(run: Run, plan: &mut [f64; 3]) -> Answered {
+    let u = point(run);
+    print_line(b"cost", u);
+    let x = cost(u);
+    answer(run, Reply::Number(x), &u, plan)
+}
+
+fn on_gradient(run: Run, plan: &mut [f64; 3]) -> Answered {
+    let u = point(run);
+    print_line(b"gradient", u);
+    let v = gradient(u);
+    answer(run, Reply::Vector, &v, plan)
+}
+
+fn on_project(run: Run, plan: &mut [f64; 3]) -> Answered {
+    let p = point(run);
+    print_line(b"project", p);
+    let v = project(p);
+    answer(run, Reply::Vector, &v, plan)
+}
+
+// The direction is the residual.
+fn on_direction(run: Run, forget: bool, plan: &mut [f64; 3]) -> Answered {
+    let mut residual = [0.0; 3];
+    let mut u = [0.0; 3];
+    points(run, &mut residual, &mut u);
+    if forget {
+        io::write_all(STDOUT_FILENO, b"direction 1");
+    } else {
+        io::write_all(STDOUT_FILENO, b"direction 0");
+    }
+    print_vector(residual);
+    print_line(b" u", u);
+    answer(run, Reply::Vector, &residual, plan)
+}
+
+fn on_time(run: Run, plan: &mut [f64; 3]) -> Answered {
+    let v = [0.0; 3];
+    io::write_all(STDOUT_FILENO, b"time\n");
+    answer(run, Reply::Yes, &v, plan)
+}
+
+// A question is printed with its points, and answered.
+fn turn(run: Run, question: Question, plan: &mut [f64; 3]) -> Answered {
+    match question {
+        Question::Cost => on_cost(run, plan),
+        Question::Gradient => on_gradient(run, plan),
+        Question::Project => on_project(run, plan),
+        Question::Direction(forget) => on_direction(run, forget, plan),
+        Question::Time => on_time(run, plan),
+    }
+}
+
+fn print_exit(status: ExitStatus) {
+    match status {
+        ExitStatus::Converged => {
+            io::write_all(STDOUT_FILENO, b"ended Converged ");
+        }
+        ExitStatus::NotConvergedIterations => {
+            io::write_all(STDOUT_FILENO, b"ended NotConvergedIterations ");
+        }
+        ExitStatus::NotConvergedOutOfTime => {
+            io::write_all(STDOUT_FILENO, b"ended NotConvergedOutOfTime ");
+        }
+    }
+}
+
+fn print_end(status: SolverStatus, plan: [f64; 3]) {
+    let exit = status.exit_status;
+    let iterations = status.iterations;
+    print_exit(exit);
+    io::print_decimal(STDOUT_FILENO, iterations.0 as u64);
+    print_float(status.norm_fpr);
+    print_float(status.cost_value);
+    print_line(b"\nplan", plan);
+}
+
+fn print_refused(number: u32) {
+    io::write_all(STDOUT_FILENO, b"refused ");
+    io::print_decimal(STDOUT_FILENO, number as u64);
+    io::write_all(STDOUT_FILENO, b"\n");
+}
+
+fn print_outcome(outcome: Outcome, plan: [f64; 3]) {
+    match outcome {
+        Outcome::Asked(_) => {}
+        Outcome::Ended(status) => print_end(status, plan),
+        Outcome::Refused(number) => print_refused(number),
+        Outcome::Failed(_) => print_refused(9),
+    }
+}
+
+// M is 5, so 30 + 56 × 5 turns are enough.
+fn main() {
+    let set = Settings {
+        n: 3,
+        max_iter: 5,
+        limited: true,
+        tolerance: 1e-4,
+        akkt_tolerance: AkktTolerance::Set(1e-2),
+    };
+    let mut plan = [1.5, 0.0, 0.0];
+    let mut last = start(set, &plan);
+    let mut turns = 310u64;
+    while turns > 0 {
+        let outcome = last.outcome;
+        let Outcome::Asked(question) = outcome else {
+            print_outcome(outcome, plan);
+            return;
+        };
+        let run = last.run;
+        last = turn(run, question, &mut plan);
+        turns -= 1;
+    }
+}
