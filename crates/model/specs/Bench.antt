@@ -2,7 +2,8 @@
 use Prim.Native.Nat.{ℕ, _-_, _*_, _^_}
 use mathlib.Core.Path.{_≡_, refl, ap, _∙_}
 use mathlib.Core.Bool.{Bool, true, false, _&&_, cond}
-use mathlib.Core.List.{List}
+use mathlib.Core.List.{List, []}
+use native.Mathlib.Omega.{arith}
 use lib.IntN.{pos}
 use lib.Ieee.{Float, Format, binary64, nan, inf, fin, lt, mul, round}
 use lib.ListN.{length}
@@ -13,7 +14,11 @@ use Rattle.model.specs.Vectors.{shift}
 use Rattle.model.specs.State.{Settings, noBest, keep}
 use Rattle.model.specs.Loop.{LoopSettings}
 use Rattle.model.specs.Psi.{Sizes}
-use Rattle.model.specs.Refusals.{unless, sizesRight, mappingsRight, limitRight, toleranceRight, akktRight, loopNumbersRight, xiRight, innerRefusal, loopRefusal, psiRefusal}
+use Rattle.model.specs.Process.{converged}
+use Rattle.model.specs.Bounds.{AtMost, at-most-more, weigh, onlyCost}
+use Rattle.model.specs.Plans.{Ends}
+use Rattle.model.specs.Starts.{start-inner-at-most, start-inner-questions-at-most, start-one-outer-never-converged}
+use Rattle.model.specs.Refusals.{startInner, startLoop, unless, sizesRight, mappingsRight, limitRight, toleranceRight, akktRight, loopNumbersRight, xiRight, innerRefusal, loopRefusal, psiRefusal}
 
 -- a row for each piece
 pub record Bench : Type 0 where
@@ -31,6 +36,11 @@ pub record Bench : Type 0 where
       → keep (keep (keep (noBest n) a (fin false 3 (pos 0))) b (fin false 1 (pos 0))) c (fin false 1 (pos 0)) ≡ record { point = b; norm = fin false 1 (pos 0) }
   -- "norms NaN, infinity: zeros kept"
   pub zeros-kept : (n : ℕ) (a b : List Float) → keep (keep (noBest n) a nan) b (inf false) ≡ noBest n
+  -- "M = 1: at most 86 questions, 36 of them COST", whatever is answered
+  pub questions-86 : (f : Format) (s : Settings) (u : List Float) → s .limit ≡ 1 → AtMost (λ q. 1) (startInner f s u) 86
+  pub cost-36 : (f : Format) (s : Settings) (u : List Float) → s .limit ≡ 1 → AtMost (weigh onlyCost) (startInner f s u) 36
+  -- "K = 1 with n1 = 1 never Converged", whatever is answered
+  pub never-converged : (f : Format) (s : LoopSettings) (u xi : List Float) → s .n1 ≡ 1 → s .outer ≡ 1 → Ends (λ scores h. h .status ≡ converged → ⊥) [] (startLoop f s u xi)
   -- "n = 64 accepted, 65 and 0 refused with 1": whatever else is started with; accepted where nothing else is wrong
   pub inner-64 : (s : Settings) → s .n ≡ 64 → limitRight 10000 (s .limit) ≡ true → (toleranceRight (s .tolerance) && akktRight (s .akkt)) ≡ true → innerRefusal s 64 ≡ 0
   pub inner-65 : (s : Settings) (us : ℕ) → s .n ≡ 65 → innerRefusal s us ≡ 1
@@ -79,6 +89,9 @@ bench =
       shift-zero = refl;
       second-kept = λ n a b c. refl;
       zeros-kept = λ n a b. refl;
+      questions-86 = λ f s u e. at-most-more _ (startInner f s u) _ _ (omega (arith, e)) (start-inner-questions-at-most f s u);
+      cost-36 = λ f s u e. at-most-more _ (startInner f s u) _ _ (omega (arith, e)) (start-inner-at-most f s u onlyCost);
+      never-converged = λ f s u xi e k. start-one-outer-never-converged f s u xi (omega (arith, e)) k;
       inner-64 = λ s e p q. size-64 (s .n) 1 _ e ∙ on (limitRight 10000 (s .limit)) 3 _ p ∙ on (toleranceRight (s .tolerance) && akktRight (s .akkt)) 4 0 q;
       inner-65 = λ s us e. size-65 (s .n) us 1 _ e;
       inner-0 = λ s us e. size-0 (s .n) us 1 _ e;
