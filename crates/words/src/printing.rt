@@ -103,7 +103,7 @@ pub fn put_whole(n: u64, out: &mut [u8], at: usize) -> usize
 // A word with a whole number behind it.
 pub fn put_counted(word: &[u8], n: u64, out: &mut [u8], at: usize) -> usize
     requires { ⌜ at + length (now word) + 20 ≤ length (now out) ⌝ }
-    ensures { λ r. ⌜ (r ≡ at + length (countedText (now (word .entry)) n)) × (now (out .exit) ≡ written (now (out .entry)) at (countedText (now (word .entry)) n)) ⌝ }
+    ensures { λ r. ⌜ (r ≡ at + length (countedText (now (word .entry)) n)) × (now (out .exit) ≡ written (now (out .entry)) at (countedText (now (word .entry)) n)) × (r ≤ at + length (now (word .entry)) + 20) ⌝ }
 {
     let next = put_word(word, out, at);
     put_whole(n, out, next)

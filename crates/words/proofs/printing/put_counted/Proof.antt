@@ -18,7 +18,7 @@ same-length c = search needs
 
 returns : tie.Need-returns
 unfolding countedText
-returns c = (omega (arith, c .before .before .before .before .before .before .put-word .ensures .0, c .before .before .put-whole .ensures .0, length-append (c .before .before .before .before .before .before .before .before .before .before .args .word .now) (wholeWord (c .before .before .before .before .before .before .before .before .before .before .args .n))), behind-word _ _ _ (wholeWord (c .before .before .before .before .before .before .before .before .before .before .args .n)) _ _ _ (omega (arith, length-whole (c .before .before .before .before .before .before .before .before .before .before .args .n))) (c .before .before .before .before .before .before .put-word .ensures .0) (c .before .before .before .before .before .before .put-word .ensures .1) (c .before .before .put-whole .ensures .1))
+returns c = (omega (arith, c .before .before .before .before .before .before .put-word .ensures .0, c .before .before .put-whole .ensures .0, length-append (c .before .before .before .before .before .before .before .before .before .before .args .word .now) (wholeWord (c .before .before .before .before .before .before .before .before .before .before .args .n))), behind-word _ _ _ (wholeWord (c .before .before .before .before .before .before .before .before .before .before .args .n)) _ _ _ (omega (arith, length-whole (c .before .before .before .before .before .before .before .before .before .before .args .n))) (c .before .before .before .before .before .before .put-word .ensures .0) (c .before .before .before .before .before .before .put-word .ensures .1) (c .before .before .put-whole .ensures .1), omega (arith, c .before .before .before .before .before .before .put-word .ensures .0, c .before .before .put-whole .ensures .0, length-whole (c .before .before .before .before .before .before .before .before .before .before .args .n)))
 
 pub put-counted-spec : {M : Type 1} → statement M
 put-counted-spec = tie.close (tie.spec put-word-requires put-whole-requires same-length returns)

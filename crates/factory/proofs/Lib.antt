@@ -1,0 +1,3 @@
+pub mod FactoryLaws
+pub mod PsiLaws
+pub mod DPsiLaws

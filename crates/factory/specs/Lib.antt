@@ -1,0 +1,4 @@
+pub mod FactoryValues
+pub mod FactoryRest
+pub mod FactoryCalls
+pub mod FactoryBoard
