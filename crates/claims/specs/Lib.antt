@@ -3,9 +3,11 @@ pub mod Trace
 pub mod Claim
 pub mod Inner
 pub mod Loop
+pub mod Psi
 pub mod Lawful
 pub mod Left
 pub mod Follow
 pub mod Chosen
 pub mod InnerProof
 pub mod LoopProof
+pub mod PsiProof
