@@ -1,8 +1,8 @@
--- `solve_by_hand::to_bits` is safe: the pattern is asked of no NaN. Assumes nothing.
+-- `shown::to_bits` is safe: the pattern is asked of no NaN. Assumes nothing.
 use Rattle.ieee.specs.Special.{no-nan}
 use borrow.Author.Needs.{needs}
-use Rattle.solve_by_hand.proofs.to_bits.Statement.{statement}
-use Rattle.solve_by_hand.proofs.to_bits.Tie as tie
+use Rattle.shown.proofs.to_bits.Statement.{statement}
+use Rattle.shown.proofs.to_bits.Tie as tie
 
 returns : tie.Need-returns
 returns c = search needs
