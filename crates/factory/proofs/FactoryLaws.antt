@@ -158,47 +158,6 @@ pub sound-not-n1 : (s : Sizes) → s .n ≤ 64 → 32 < s .n1 → false ≡ soun
 unfolding soundSizes
 sound-not-n1 s a b = rw (le-leb _ _ a, lt-leb _ _ b)
 
-pub size-zero : (n us : ℕ) → n ≡ 0 → false ≡ sizesRight n us
-unfolding sizesRight
-size-zero n us e = rw (le-ltb 0 n (omega arith))
-
-pub size-large : (n us : ℕ) → 64 < n → false ≡ sizesRight n us
-unfolding sizesRight
-size-large n us h = rw (lt-ltb 0 n (omega arith), lt-leb n 64 h)
-
-pub size-is : (n us : ℕ) → (n ≡ 0 → ⊥) → n ≤ 64 → eqb us n ≡ sizesRight n us
-unfolding sizesRight
-size-is n us z h = rw (lt-ltb 0 n (omega arith), le-leb n 64 h)
-
-pub xi-none : (n1 n2 : ℕ) → n1 ≡ 0 → n2 ≡ 0 → 0 ≡ xiLength n1 n2
-unfolding xiLength
-xi-none n1 n2 p q = rw (eq-eqb n1 0 p, eq-eqb n2 0 q)
-
-pub xi-one : (n1 n2 : ℕ) → n1 ≡ 0 → (n2 ≡ 0 → ⊥) → 1 ≡ xiLength n1 n2
-unfolding xiLength
-xi-one n1 n2 p q = rw (eq-eqb n1 0 p, ne-eqb n2 0 q) (omega arith)
-
-pub xi-some : (n1 n2 : ℕ) → (n1 ≡ 0 → ⊥) → n1 + 1 ≡ xiLength n1 n2
-unfolding xiLength
-xi-some n1 n2 p = rw (ne-eqb n1 0 p)
-
-last-true : (b : Bool) → (b && true) ≡ b
-last-true true = refl
-last-true false = refl
-
-module _ (n1 n2 xis : ℕ) where
-  pub mappings-is : (m : ℕ) → n1 ≤ 32 → n2 ≤ 32 → m ≡ xiLength n1 n2 → eqb xis m ≡ mappingsRight n1 n2 false xis
-  unfolding mappingsRight
-  mappings-is m a b e = rw (le-leb _ _ a, le-leb _ _ b, last-true (eqb xis (xiLength n1 n2)), e)
-
-  pub mappings-not-n1 : 32 < n1 → false ≡ mappingsRight n1 n2 false xis
-  unfolding mappingsRight
-  mappings-not-n1 a = rw (lt-leb _ _ a)
-
-  pub mappings-not-n2 : n1 ≤ 32 → 32 < n2 → false ≡ mappingsRight n1 n2 false xis
-  unfolding mappingsRight
-  mappings-not-n2 a b = rw (le-leb _ _ a, lt-leb _ _ b)
-
 -- the number of a start's refusal
 module _ (s : Sizes) (us xis : ℕ) where
   pub refusal-one : sizesRight (s .n) us ≡ false → 1 ≡ psiRefusal (sizesOf s) us xis
@@ -212,28 +171,6 @@ module _ (s : Sizes) (us xis : ℕ) where
   pub refusal-none : sizesRight (s .n) us ≡ true → mappingsRight (s .n1) (s .n2) false xis ≡ true → 0 ≡ psiRefusal (sizesOf s) us xis
   unfolding psiRefusal unless
   refusal-none e q = rw (e, q)
-
--- c and y of a xi
-pub penalty-some : (xi : List Float) (x : Float) → 0 < length xi → getD xi 0 x ≡ penaltyIn xi
-unfolding penaltyIn
-penalty-some [] x h = absurd (omega arith)
-penalty-some (c ∷ y) x h = refl
-
-pub penalty-none : (xi : List Float) → length xi ≤ 0 → ofBits binary64 0 ≡ penaltyIn xi
-unfolding penaltyIn
-penalty-none [] h = zero-bits binary64
-penalty-none (c ∷ y) h = absurd (omega arith)
-
-pub multipliers-some : (xi a : List Float) → 0 < length xi → firsts (length (take (length xi - 1) (drop 1 xi))) a ≡ take (length xi - 1) (drop 1 xi)
-    → firsts (length (multipliersIn xi)) a ≡ multipliersIn xi
-unfolding multipliersIn
-multipliers-some [] a h e = absurd (omega arith)
-multipliers-some (c ∷ y) a h e = subst (λ (l : List Float). firsts (length l) a ≡ l) (take-all (length (c ∷ y) - 1) y (omega arith)) e
-
-pub multipliers-none : (xi a : List Float) → length xi ≤ 0 → firsts (length (multipliersIn xi)) a ≡ multipliersIn xi
-unfolding multipliersIn firsts
-multipliers-none [] a h = refl
-multipliers-none (c ∷ y) a h = absurd (omega arith)
 
 -- what an accepted start says
 pub record Started (s : Sizes) (us : ℕ) (xi : List Float) : Type 0 where

@@ -1,7 +1,7 @@
-use Rattle.alm.specs.LoopLaws.{penalty-none, penalty-some}
+use Rattle.starts.specs.StartLaws.{penalty-none, penalty-some}
 use borrow.Author.Needs.{needs}
-use Rattle.alm.proofs.alm_optimizer.penalty_in.Statement.{statement}
-use Rattle.alm.proofs.alm_optimizer.penalty_in.Tie as tie
+use Rattle.starts.proofs.penalty_in.Statement.{statement}
+use Rattle.starts.proofs.penalty_in.Tie as tie
 
 shared-slice-read-result : tie.Need-shared-slice-read-result
 shared-slice-read-result c = search needs

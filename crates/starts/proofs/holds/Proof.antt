@@ -1,7 +1,7 @@
-use Rattle.alm.specs.LoopLaws.{holds-none, holds-is}
+use Rattle.starts.specs.StartLaws.{holds-none, holds-is}
 use borrow.Author.Needs.{needs}
-use Rattle.alm.proofs.alm_optimizer.holds.Statement.{statement}
-use Rattle.alm.proofs.alm_optimizer.holds.Tie as tie
+use Rattle.starts.proofs.holds.Statement.{statement}
+use Rattle.starts.proofs.holds.Tie as tie
 
 sub-result : tie.Need-sub-result
 sub-result c = search needs

@@ -1,7 +1,7 @@
-use Rattle.alm.specs.LoopLaws.{factor-is, factor-not}
+use Rattle.starts.specs.StartLaws.{factor-is, factor-not}
 use borrow.Author.Needs.{needs}
-use Rattle.alm.proofs.alm_optimizer.factor_right.Statement.{statement}
-use Rattle.alm.proofs.alm_optimizer.factor_right.Tie as tie
+use Rattle.starts.proofs.factor_right.Statement.{statement}
+use Rattle.starts.proofs.factor_right.Tie as tie
 
 is-finite-requires : tie.Need-is-finite-requires
 is-finite-requires c κs = search needs
