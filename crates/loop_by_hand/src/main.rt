@@ -8,6 +8,6 @@ fn main() {
     let end = outer::play();
     let u = end.plan;
     let xi = end.xi;
-    penalty::psi::play(u, xi, true);
-    penalty::d_psi::play(u, xi, true);
+    penalty::value::play(u, xi, true);
+    penalty::slope::play(u, xi, true);
 }

@@ -48,7 +48,7 @@ fn on_cost(run: AlmRun, plan: &mut [f64; 2], xi: &mut [f64; 2]) -> AlmAnswered {
     let u = p.plan;
     let at = p.xi;
     shown::two_points(b"cost", &u, b" xi", &at);
-    let x = penalty::psi::play(u, at, false);
+    let x = penalty::value::play(u, at, false);
     answer(run, Reply::Number(x), &u, plan, xi)
 }
 
@@ -57,7 +57,7 @@ fn on_gradient(run: AlmRun, plan: &mut [f64; 2], xi: &mut [f64; 2]) -> AlmAnswer
     let u = p.plan;
     let at = p.xi;
     shown::two_points(b"gradient", &u, b" xi", &at);
-    let v = penalty::d_psi::play(u, at, false);
+    let v = penalty::slope::play(u, at, false);
     answer(run, Reply::Vector, &v, plan, xi)
 }
 

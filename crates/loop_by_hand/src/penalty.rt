@@ -1,8 +1,8 @@
 // psi and d_psi of the model at u and xi, as runs; their questions are printed where they are to be shown.
 use factory::alm_factory::Sizes;
 
-pub mod d_psi;
-pub mod psi;
+pub mod slope;
+pub mod value;
 
 // A question and its point.
 pub fn tell(aloud: bool, name: &[u8], v: &[f64]) {

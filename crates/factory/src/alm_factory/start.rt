@@ -8,7 +8,7 @@ use starts::mappings_right;
 use starts::sizes_right;
 
 // Sizes for which the arrays are long enough, as those of a run that a start made are.
-pub(crate) fn sound(s: Sizes) -> bool
+pub fn sound(s: Sizes) -> bool
     ensures { λ r. ⌜ r ≡ soundSizes s ⌝ }
 {
     if s.n <= 64 {
@@ -20,7 +20,7 @@ pub(crate) fn sound(s: Sizes) -> bool
 }
 
 // The number by which a start is refused, 0 for none; us and xis are the lengths of u and xi.
-pub(crate) fn start_refusal(s: Sizes, us: usize, xis: usize) -> u32
+pub fn start_refusal(s: Sizes, us: usize, xis: usize) -> u32
     ensures { λ r. ⌜ r ≡ psiRefusal (sizesOf s) us xis ⌝ }
 {
     if sizes_right(s.n, us) {
