@@ -188,7 +188,7 @@ impl Session {
                 _ => {}
             }
             let never_fails = matches!(asked.kind, Kind::Time | Kind::Direction);
-            let lent_fits = self.call == Call::Psi || self.tape.lent_fits();
+            let lent_fits = self.tape.lent_fits();
             if let Some(number) = table::answer(asked.wants, never_fails, &line, lent_fits) {
                 self.tape.print_refused(number);
                 self.tally.refused(number);

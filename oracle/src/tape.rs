@@ -34,8 +34,13 @@ impl Tape {
         self.lengths
     }
 
+    /// Whether what the run lends has the lengths asked: an inner solve lends u alone, d_psi its result, psi nothing.
     pub fn lent_fits(&self) -> bool {
-        (self.u.len(), self.xi.len()) == self.lengths
+        match self.call {
+            Some(Call::Loop) => (self.u.len(), self.xi.len()) == self.lengths,
+            Some(Call::Psi) => true,
+            _ => self.u.len() == self.lengths.0,
+        }
     }
 
     /// Writes a line of the script; what it prints is not written here.

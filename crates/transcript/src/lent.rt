@@ -47,3 +47,13 @@ pub fn put_lent(u: &[f64], xi: &[f64], out: &mut [u8], at: usize) -> usize
     let next = put_point(b"lent", u, out, at);
     put_point(b" xi", xi, out, next)
 }
+
+// show
+pub fn show(lent: Lent, u: &[f64], xi: &[f64], out: &mut [u8], at: usize) -> usize
+    requires { ⌜ (length (now u) ≤ 128) × (length (now xi) ≤ 128) × (at + 4500 ≤ length (now out)) ⌝ }
+    ensures { λ r. ⌜ r ≤ at + 4500 ⌝ }
+{
+    let us = least(lent.us, u.len());
+    let xis = least(lent.xis, xi.len());
+    put_lent(&u[..us], &xi[..xis], out, at)
+}

@@ -1,24 +1,15 @@
-// The lines of a block: what each says is done, and what it prints goes to the output's buffer.
+// The lines of a block: each is read and done.
 ghost use mathlib.Core.Path.{_≡_};
 ghost use Prim.Native.Nat.{_+_, _≤_};
 ghost use lib.ListN.{length};
-use crate::inner_calls::answer_inner;
-use crate::inner_calls::start_inner;
-use crate::lent::Lent;
-use crate::lent::clear;
-use crate::lent::keep;
-use crate::lent::put_lengths;
-use crate::lent::put_lent;
-use crate::output::end_line;
+use crate::acts::act;
 use crate::output::least;
+use crate::session::Next;
 use crate::session::Session;
-use crate::session::reply;
-use crate::session::settings;
 use libc::STDOUT_FILENO;
 use script::command::Command;
 use script::command::Said;
 use script::said;
-use words::printing::put_word;
 
 // Where the line that begins at a place ends: at its newline, or where the bytes do.
 pub fn line_end(buf: &[u8], from: usize) -> usize
@@ -59,60 +50,25 @@ fn read_line(line: &[u8], v: &mut [f64], w: &mut [f64]) -> Said {
     said(line, v, w)
 }
 
-// show
-fn show(lent: Lent, u: &[f64], xi: &[f64], out: &mut [u8], at: usize) -> usize
-    requires { ⌜ (length (now u) ≤ 128) × (length (now xi) ≤ 128) × (at + 4500 ≤ length (now out)) ⌝ }
-    ensures { λ r. ⌜ r ≤ at + 4500 ⌝ }
-{
-    let us = least(lent.us, u.len());
-    let xis = least(lent.xis, xi.len());
-    put_lent(&u[..us], &xi[..xis], out, at)
-}
-
-// What lend, show and a line of another form leave of the lent places, with the place behind what they print.
-struct Sided {
-    lent: Lent,
-    at: usize,
-}
-
-fn aside(
-    lent: Lent,
-    command: Command,
+// What a line says is done.
+fn one_line(
+    s: Session,
+    line: &[u8],
     u: &mut [f64],
     xi: &mut [f64],
+    v: &mut [f64],
+    w: &mut [f64],
     out: &mut [u8],
     at: usize,
-) -> Sided
+) -> Next
     requires { ⌜ (length (now u) ≤ 128) × (length (now xi) ≤ 128) × (at + 4608 ≤ length (now out)) ⌝ }
     ensures { λ r. ⌜ r .at ≤ at + 4608 ⌝ }
 {
-    match command {
-        Command::Lend(a, b) => {
-            clear(u, lent.us);
-            clear(xi, lent.xis);
-            let us = a as usize;
-            let xis = b as usize;
-            let next = put_lengths(us, xis, out, at);
-            Sided {
-                lent: Lent { us, xis },
-                at: end_line(out, next),
-            }
-        }
-        Command::Show => {
-            let next = show(lent, u, xi, out, at);
-            Sided {
-                lent,
-                at: end_line(out, next),
-            }
-        }
-        _ => {
-            let next = put_word(b"bad", out, at);
-            Sided {
-                lent,
-                at: end_line(out, next),
-            }
-        }
-    }
+    let r = read_line(line, v, w);
+    let n = least(r.first, v.len());
+    let m = least(r.second, w.len());
+    let command = r.command;
+    act(s, command, &v[..n], &w[..m], u, xi, out, at)
 }
 
 // The session, the place where an unfinished line begins, and the place behind what was printed.
@@ -150,36 +106,11 @@ pub fn lines(
             };
         }
         at = make_room(out, at);
-        let r = read_line(&buf[from..end], v, w);
+        let r = one_line(s, &buf[from..end], u, xi, v, w, out, at);
+        let next = r.session;
+        s = next;
         from = end + 1;
-        let n = least(r.first, v.len());
-        let command = r.command;
-        let lent = s.lent;
-        match command {
-            Command::Answer(given) => {
-                let us = least(lent.us, u.len());
-                let run = s.inner;
-                let a = answer_inner(run, reply(given), &v[..n], &mut u[..us], out, at);
-                let next = a.run;
-                s.inner = next;
-                at = a.at;
-            }
-            Command::Inner(set) => {
-                keep(&v[..n], u);
-                let a = start_inner(settings(set), &v[..n], out, at);
-                let next = a.run;
-                s.inner = next;
-                let lent = Lent { us: n, xis: 0 };
-                s.lent = lent;
-                at = a.at;
-            }
-            other => {
-                let a = aside(lent, other, u, xi, out, at);
-                let next = a.lent;
-                s.lent = next;
-                at = a.at;
-            }
-        }
+        at = r.at;
     }
     Done {
         session: s,

@@ -37,6 +37,11 @@ fn lend_wrongly(random: &mut Random, wants: Wants, tape: &Tape, queue: &mut VecD
         _ => length,
     };
     let lent = match tape.call {
+        Some(Call::Inner) if random.chance(250) => {
+            // an inner solve lends u alone, so nothing is refused
+            queue.push_back(Said::Line(Line::Lend(u, xi + 1)));
+            return;
+        }
         Some(Call::Inner) | Some(Call::DPsi) => (another(random, u), xi),
         Some(Call::Loop) => (another(random, u), another(random, xi)),
         _ => {

@@ -60,13 +60,23 @@ impl Program {
         out.push(b'\n');
     }
 
+    /// Whether the places that the open run lends have the lengths asked: an inner solve lends u alone, d_psi its result, psi nothing.
+    fn lent_fits(&self) -> bool {
+        let (u, xi) = self.asked;
+        match self.call {
+            Some(Call::Loop) => (u, xi) == (self.u.len(), self.xi.len()),
+            Some(Call::Psi) => true,
+            _ => u == self.u.len(),
+        }
+    }
+
     fn answer(&mut self, answer: Line, out: &mut Vec<u8>) {
+        let length_fits = self.lent_fits();
         let Some(run) = &mut self.run else {
             return refused(6, out);
         };
         let wants = run.wants();
         let failure_taken = !(wants == Wants::YesNo || is_direction(run));
-        let length_fits = self.asked == (self.u.len(), self.xi.len());
         let given = match (&answer, wants) {
             (Line::Number(x), Wants::Number) => Given::Number(*x),
             (Line::Vector(v), Wants::Vector(n)) => {

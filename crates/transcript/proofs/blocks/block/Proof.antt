@@ -1,4 +1,5 @@
 -- `transcript::blocks::block` meets its contract: the places stay within the buffers. Assumes nothing.
+use mathlib.Core.Path.{_∙_}
 use native.Mathlib.Omega.{arith}
 use Rattle.transcript.proofs.Laws.{firsts}
 use borrow.Author.Needs.{needs}
@@ -69,7 +70,7 @@ same-length-7 : tie.Need-same-length-7
 same-length-7 c = search needs
 
 same-length-8 : tie.Need-same-length-8
-same-length-8 c = search needs
+same-length-8 c = c .before .before .before .before .before .before .before .before .before .before .before .before .before .before .before .before .lines .kept .1 .1 .1 .1 .1 .1 .1 .0 ∙ c .before .before .before .before .before .before .before .before .before .before .before .before .before .before .before .before .before .before .before .before .before .before .before .before .before .before .first-line .kept .1 .1 .0
 
 returns-2 : tie.Need-returns-2
 returns-2 c = search needs

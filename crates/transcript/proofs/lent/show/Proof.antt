@@ -1,9 +1,9 @@
--- `transcript::lines::show` meets its contract: what is lent has room. Assumes nothing.
+-- `transcript::lent::show` meets its contract: what is lent has room. Assumes nothing.
 use native.Mathlib.Omega.{arith}
 use Rattle.transcript.proofs.Laws.{firsts}
 use borrow.Author.Needs.{needs}
-use Rattle.transcript.proofs.lines.show.Statement.{statement}
-use Rattle.transcript.proofs.lines.show.Tie as tie
+use Rattle.transcript.proofs.lent.show.Statement.{statement}
+use Rattle.transcript.proofs.lent.show.Tie as tie
 
 least-requires : tie.Need-least-requires
 least-requires c κs = search needs

@@ -1,0 +1,178 @@
+// The calls of the multiplier loop, and what is printed of each.
+ghost use Prim.Native.Nat.{_+_, _*_, _≤_};
+ghost use lib.ListN.{length};
+use crate::inner_calls::put_question;
+use crate::output::end_line;
+use crate::output::least;
+use crate::output::places;
+use crate::output::put_end;
+use crate::output::put_failed;
+use crate::output::put_refused;
+use alm::alm_optimizer::answer;
+use alm::alm_optimizer::start;
+use alm::alm_points::first_places;
+use alm::alm_points::points;
+use alm::alm_points::second_places;
+use alm_core::alm_cache::Alm;
+use alm_core::alm_cache::AlmOptimizerStatus;
+use alm_core::alm_cache::AlmOutcome;
+use alm_core::alm_cache::AlmQuestion;
+use alm_core::alm_cache::AlmRun;
+use alm_core::alm_cache::AlmSettings;
+use panoc_core::panoc_cache::Question;
+use panoc_core::panoc_cache::Reply;
+use words::printing::put_counted;
+use words::printing::put_floats;
+use words::printing::put_point;
+use words::printing::put_word;
+
+// A run, with the place behind what was printed.
+pub struct LoopLine {
+    pub run: AlmRun,
+    pub at: usize,
+}
+
+// A start.
+pub fn start_loop(set: AlmSettings, u: &[f64], xi: &[f64], out: &mut [u8], at: usize) -> LoopLine
+    requires { ⌜ at + 4608 ≤ length (now out) ⌝ }
+    ensures { λ r. ⌜ r .at ≤ at + 4608 ⌝ }
+{
+    let r = start(set, u, xi);
+    let outcome = r.outcome;
+    let run = r.run;
+    let next = put_outcome(run, outcome, out, at);
+    LoopLine {
+        run,
+        at: end_line(out, next),
+    }
+}
+
+// An answer.
+pub fn answer_loop(
+    run: AlmRun,
+    a: Reply,
+    v: &[f64],
+    plan: &mut [f64],
+    xi: &mut [f64],
+    out: &mut [u8],
+    at: usize,
+) -> LoopLine
+    requires { ⌜ at + 4608 ≤ length (now out) ⌝ }
+    ensures { λ r. ⌜ r .at ≤ at + 4608 ⌝ }
+{
+    let r = answer(run, a, v, plan, xi);
+    let outcome = r.outcome;
+    let run = r.run;
+    let next = put_outcome(run, outcome, out, at);
+    LoopLine {
+        run,
+        at: end_line(out, next),
+    }
+}
+
+// How many places the second point of the question has; a run of a start that was accepted has n1 at most 32.
+fn seconds(s: Alm) -> usize {
+    if 32 < s.set.n1 {
+        return 0;
+    }
+    second_places(s)
+}
+
+// What a call gave.
+fn put_outcome(run: AlmRun, outcome: AlmOutcome, out: &mut [u8], at: usize) -> usize
+    requires { ⌜ at + 4400 ≤ length (now out) ⌝ }
+    ensures { λ r. ⌜ r ≤ at + 4400 ⌝ }
+{
+    match outcome {
+        AlmOutcome::Asked(question) => {
+            let s = run.alm;
+            let n = least(first_places(s), 64);
+            let m = least(seconds(s), 64);
+            let mut p = places();
+            let mut q = places();
+            put_asked(run, question, &mut p[..n], &mut q[..m], out, at)
+        }
+        AlmOutcome::Ended(status) => put_ended(status, out, at),
+        AlmOutcome::Refused(number) => put_refused(number, out, at),
+        AlmOutcome::Failed(code) => put_failed(code, out, at),
+    }
+}
+
+// A question, with the points that the run gives into slices of their lengths.
+fn put_asked(
+    run: AlmRun,
+    question: AlmQuestion,
+    p: &mut [f64],
+    q: &mut [f64],
+    out: &mut [u8],
+    at: usize,
+) -> usize
+    requires { ⌜ at + 64 + 17 * (length (now p) + length (now q)) ≤ length (now out) ⌝ }
+    ensures { λ r. ⌜ r ≤ at + 64 + 17 * (length (now (p .entry)) + length (now (q .entry))) ⌝ }
+{
+    points(run, p, q);
+    put_loop_question(question, p, q, out, at)
+}
+
+// A question of the loop, with its points.
+fn put_loop_question(
+    question: AlmQuestion,
+    p: &[f64],
+    q: &[f64],
+    out: &mut [u8],
+    at: usize,
+) -> usize
+    requires { ⌜ at + 64 + 17 * (length (now p) + length (now q)) ≤ length (now out) ⌝ }
+    ensures { λ r. ⌜ r ≤ at + 64 + 17 * (length (now (p .entry)) + length (now (q .entry))) ⌝ }
+{
+    match question {
+        AlmQuestion::Inner(inner) => put_carried(inner, p, q, out, at),
+        AlmQuestion::Time => put_word(b"time", out, at),
+        AlmQuestion::ProjectY => put_point(b"project_y", p, out, at),
+        AlmQuestion::F1 => put_point(b"f1", p, out, at),
+        AlmQuestion::ProjectC => put_point(b"project_c", p, out, at),
+        AlmQuestion::F2 => put_point(b"f2", p, out, at),
+        AlmQuestion::Cost => put_with_xi(b"cost", p, q, out, at),
+    }
+}
+
+// A question of the inner solve that the loop carries: COST and GRADIENT come with xi.
+fn put_carried(question: Question, p: &[f64], q: &[f64], out: &mut [u8], at: usize) -> usize
+    requires { ⌜ at + 64 + 17 * (length (now p) + length (now q)) ≤ length (now out) ⌝ }
+    ensures { λ r. ⌜ r ≤ at + 64 + 17 * (length (now (p .entry)) + length (now (q .entry))) ⌝ }
+{
+    match question {
+        Question::Cost => put_with_xi(b"cost", p, q, out, at),
+        Question::Gradient => put_with_xi(b"gradient", p, q, out, at),
+        other => put_question(other, p, q, out, at),
+    }
+}
+
+// WORD U... xi XI...
+fn put_with_xi(word: &[u8], u: &[f64], xi: &[f64], out: &mut [u8], at: usize) -> usize
+    requires { ⌜ (length (now word) ≤ 8) × (at + 64 + 17 * (length (now u) + length (now xi)) ≤ length (now out)) ⌝ }
+    ensures { λ r. ⌜ r ≤ at + 64 + 17 * (length (now (u .entry)) + length (now (xi .entry))) ⌝ }
+{
+    let next = put_point(word, u, out, at);
+    put_point(b" xi", xi, out, next)
+}
+
+// ended END OUTER INNER NORM COST C DELTA_Y F2
+fn put_ended(status: AlmOptimizerStatus, out: &mut [u8], at: usize) -> usize
+    requires { ⌜ at + 256 ≤ length (now out) ⌝ }
+    ensures { λ r. ⌜ r ≤ at + 256 ⌝ }
+{
+    let end = status.exit_status;
+    let outer = status.num_outer_iterations;
+    let inner = status.num_inner_iterations;
+    let next = put_end(end, outer.0, out, at);
+    let next = put_counted(b" ", inner.0 as u64, out, next);
+    let numbers = [
+        status.last_problem_norm_fpr,
+        status.cost,
+        status.penalty,
+        status.delta_y_norm,
+        status.f2_norm,
+    ];
+    put_floats(&numbers, out, next)
+}
