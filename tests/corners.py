@@ -1,9 +1,9 @@
 #!/usr/bin/env python3
 """corners.py [--check]: writes crates/corners/specs, the runs of oracle/corners.txt as theorems on the definitions.
 
-The questions, points, ends and lent places are what `oracle expect` prints, which runs the Rust files unchanged. Left out are runs that
-lend other places than the start's (`lend`) or have lines of another form, and runs of more than 12 places or 80 lines. oracle/build.sh
-comes first. --check writes nothing and fails where a stored file differs."""
+The questions, points, ends and lent places are what `oracle expect` prints, which runs the Rust files unchanged. Left out are calls that
+lend other places than the start's (`lend`), and runs with lines of another form, of more than 12 places or of more than 80 lines.
+oracle/build.sh comes first. --check writes nothing and fails where a stored file differs."""
 import re
 import sys
 
@@ -44,6 +44,21 @@ def runs():
             elif found and text != "show":
                 found[-1][1].append(text)
     return found
+
+
+def lent_right(lines):
+    """A run without the calls that lend other places than the start's, which the definitions say elsewhere (Refusals: lentAt)."""
+    kind, *rest = lines[0].split(" ")
+    at = {"inner": 5, "loop": 15, "psi": 4, "d_psi": 4}[kind]
+    us = len(rest) - at if kind == "inner" else int(rest[at - 1])
+    lengths = {"inner": (us, 0), "d_psi": (int(rest[0]), 0), "psi": None}.get(kind, (us, len(rest) - at - us))
+    kept, right = [], True
+    for line in lines:
+        if line.startswith("lend "):
+            right = lengths is None or tuple(int(x) for x in line.split(" ")[1:]) == lengths
+        elif right:
+            kept.append(line)
+    return kept
 
 
 def fits(lines):
@@ -197,6 +212,12 @@ def start(line):
     return f"{'startPsi' if kind == 'psi' else 'startDPsi'} binary64 (record {{ n = {n}; n1 = {n1}; n2 = {n2} }}) {vector(u)} {vector(xi)}"
 
 
+def slug(title):
+    """A theorem's name from a heading: its words up to the first comma or semicolon."""
+    words = re.findall(r"[A-Za-z0-9]+", re.split(r"[,;]", title)[0].replace("|", ""))
+    return "-".join(["at"] * words[0].isdigit() + words)
+
+
 def theorem(name, lines):
     kind = lines[0].split(" ")[0]
     *printed, lent = expect(lines + ["show"])
@@ -225,16 +246,17 @@ FILES = {"inner": ("InnerCorners", "inner solves"), "loop": ("LoopCorners", "the
 
 
 def main():
-    texts, heading, count = {k: "" for k in STARTS}, {}, 0
+    texts, heading, places, count = {k: "" for k in STARTS}, {}, {}, 0
     for title, lines in runs():
-        kind = lines[0].split(" ")[0]
+        kind, lines = lines[0].split(" ")[0], lent_right(lines)
         if not fits(lines):
             continue
         count += 1
         if heading.get(kind) != title:
             texts[kind] += f"\n-- ---- {title}\n"
             heading[kind] = title
-        texts[kind] += "\n" + theorem(f"corner-{count}", lines)
+        places[title] = places.get(title, 0) + 1
+        texts[kind] += "\n" + theorem(f"{slug(title)}-{places[title]}", lines)
     for kind, (name, what) in FILES.items():
         path, text = FOLDER / f"{name}.antt", HEAD.format(what=what) + texts[kind]
         if "--check" not in sys.argv[1:]:

@@ -14,31 +14,31 @@ use Rattle.corners.specs.Shown.{Shows, spoken}
 
 -- ---- starts: the sizes, and the lower number first
 
-pub corner-70 :
+pub starts-the-sizes-70 :
     Shows (startDPsi binary64 (record { n = 0; n1 = 0; n2 = 0 }) [] [])
     (says (ended (refused 1))
     ∷ [])
 unfolding allPsi Shows spoken
-corner-70 = refl
+starts-the-sizes-70 = refl
 
-pub corner-71 :
+pub starts-the-sizes-71 :
     Shows (startDPsi binary64 (record { n = 1; n1 = 0; n2 = 1 }) (only null) [])
     (says (ended (refused 2))
     ∷ [])
 unfolding allPsi Shows spoken
-corner-71 = refl
+starts-the-sizes-71 = refl
 
-pub corner-72 :
+pub starts-the-sizes-72 :
     Shows (startDPsi binary64 (record { n = 1; n1 = 1; n2 = 0 }) (only null) [])
     (ended (refused 2) ▷ vector (only null)
     ∷ says (turned 6)
     ∷ [])
 unfolding allPsi Shows spoken
-corner-72 = refl
+starts-the-sizes-72 = refl
 
 -- ---- d_psi: y by c, also where c is 0
 
-pub corner-174 :
+pub d-psi-y-by-c-1 :
     Shows (startDPsi binary64 (record { n = 1; n1 = 1; n2 = 0 }) (only (1 ·2^ 1)) (1 /2^ 1 ∷ int 1 ∷ []))
     (asked (Asks.PsiQuestion.gradient (only (1 ·2^ 1))) ▷ vector (only (int 3))
     ∷ asked (Asks.PsiQuestion.f1 (only (1 ·2^ 1))) ▷ vector (only (int 1))
@@ -47,9 +47,9 @@ pub corner-174 :
     ∷ says (ended (handed (only (13 /2^ 1))))
     ∷ [])
 unfolding allPsi Shows spoken
-corner-174 = refl
+d-psi-y-by-c-1 = refl
 
-pub corner-175 :
+pub d-psi-y-by-c-2 :
     Shows (startDPsi binary64 (record { n = 1; n1 = 1; n2 = 0 }) (only (1 ·2^ 1)) (null ∷ int 1 ∷ []))
     (asked (Asks.PsiQuestion.gradient (only (1 ·2^ 1))) ▷ vector (only (int 3))
     ∷ asked (Asks.PsiQuestion.f1 (only (1 ·2^ 1))) ▷ vector (only (int 1))
@@ -58,9 +58,9 @@ pub corner-175 :
     ∷ says (ended (handed (only (int 3))))
     ∷ [])
 unfolding allPsi Shows spoken
-corner-175 = refl
+d-psi-y-by-c-2 = refl
 
-pub corner-176 :
+pub d-psi-y-by-c-3 :
     Shows (startDPsi binary64 (record { n = 1; n1 = 1; n2 = 0 }) (only (1 ·2^ 1)) (null ∷ null ∷ []))
     (asked (Asks.PsiQuestion.gradient (only (1 ·2^ 1))) ▷ vector (only (int 3))
     ∷ asked (Asks.PsiQuestion.f1 (only (1 ·2^ 1))) ▷ vector (only (int 1))
@@ -69,9 +69,9 @@ pub corner-176 :
     ∷ says (ended (handed (only (int 3))))
     ∷ [])
 unfolding allPsi Shows spoken
-corner-176 = refl
+d-psi-y-by-c-3 = refl
 
-pub corner-177 :
+pub d-psi-y-by-c-4 :
     Shows (startDPsi binary64 (record { n = 1; n1 = 1; n2 = 0 }) (only (1 ·2^ 1)) (neg (null) ∷ int 1 ∷ []))
     (asked (Asks.PsiQuestion.gradient (only (1 ·2^ 1))) ▷ vector (only (int 3))
     ∷ asked (Asks.PsiQuestion.f1 (only (1 ·2^ 1))) ▷ vector (only (int 1))
@@ -80,17 +80,17 @@ pub corner-177 :
     ∷ says (ended (handed (only nan)))
     ∷ [])
 unfolding allPsi Shows spoken
-corner-177 = refl
+d-psi-y-by-c-4 = refl
 
-pub corner-178 :
+pub d-psi-y-by-c-5 :
     Shows (startDPsi binary64 (record { n = 2; n1 = 0; n2 = 0 }) (1 ·2^ 1 ∷ int 1 ∷ []) [])
     (asked (Asks.PsiQuestion.gradient (1 ·2^ 1 ∷ int 1 ∷ [])) ▷ vector (int 3 ∷ neg (null) ∷ [])
     ∷ says (ended (handed (int 3 ∷ neg (null) ∷ [])))
     ∷ [])
 unfolding allPsi Shows spoken
-corner-178 = refl
+d-psi-y-by-c-5 = refl
 
-pub corner-179 :
+pub d-psi-y-by-c-6 :
     Shows (startDPsi binary64 (record { n = 2; n1 = 1; n2 = 2 }) (1 ·2^ 1 ∷ int 1 ∷ []) (int 3 ∷ 1 /2^ 1 ∷ []))
     (asked (Asks.PsiQuestion.gradient (1 ·2^ 1 ∷ int 1 ∷ [])) ▷ vector (int 1 ∷ 3602879701896397 /2^ 55 ∷ [])
     ∷ asked (Asks.PsiQuestion.f1 (1 ·2^ 1 ∷ int 1 ∷ [])) ▷ vector (only (1 /2^ 2))
@@ -102,26 +102,35 @@ pub corner-179 :
     ∷ says (turned 6)
     ∷ [])
 unfolding allPsi Shows spoken
-corner-179 = refl
+d-psi-y-by-c-6 = refl
 
-pub corner-180 :
+pub d-psi-y-by-c-7 :
+    Shows (startDPsi binary64 (record { n = 2; n1 = 0; n2 = 1 }) (1 ·2^ 1 ∷ int 1 ∷ []) (only (int 3)))
+    (asked (Asks.PsiQuestion.gradient (1 ·2^ 1 ∷ int 1 ∷ [])) ▷ number null
+    ∷ turned 7 ▷ vector (only (int 1))
+    ∷ says (turned 8)
+    ∷ [])
+unfolding allPsi Shows spoken
+d-psi-y-by-c-7 = refl
+
+pub d-psi-y-by-c-8 :
     Shows (startDPsi binary64 (record { n = 1; n1 = 1; n2 = 1 }) (only (1 ·2^ 1)) (int 1 ∷ int 1 ∷ []))
     (asked (Asks.PsiQuestion.gradient (only (1 ·2^ 1))) ▷ failure 41
     ∷ says (ended (failed 41))
     ∷ [])
 unfolding allPsi Shows spoken
-corner-180 = refl
+d-psi-y-by-c-8 = refl
 
-pub corner-181 :
+pub d-psi-y-by-c-9 :
     Shows (startDPsi binary64 (record { n = 1; n1 = 1; n2 = 1 }) (only (1 ·2^ 1)) (int 1 ∷ int 1 ∷ []))
     (asked (Asks.PsiQuestion.gradient (only (1 ·2^ 1))) ▷ vector (only (int 1))
     ∷ asked (Asks.PsiQuestion.f1 (only (1 ·2^ 1))) ▷ failure 42
     ∷ says (ended (failed 42))
     ∷ [])
 unfolding allPsi Shows spoken
-corner-181 = refl
+d-psi-y-by-c-9 = refl
 
-pub corner-182 :
+pub d-psi-y-by-c-10 :
     Shows (startDPsi binary64 (record { n = 1; n1 = 1; n2 = 1 }) (only (1 ·2^ 1)) (int 1 ∷ int 1 ∷ []))
     (asked (Asks.PsiQuestion.gradient (only (1 ·2^ 1))) ▷ vector (only (int 1))
     ∷ asked (Asks.PsiQuestion.f1 (only (1 ·2^ 1))) ▷ vector (only (int 1))
@@ -129,9 +138,9 @@ pub corner-182 :
     ∷ says (ended (failed 43))
     ∷ [])
 unfolding allPsi Shows spoken
-corner-182 = refl
+d-psi-y-by-c-10 = refl
 
-pub corner-183 :
+pub d-psi-y-by-c-11 :
     Shows (startDPsi binary64 (record { n = 1; n1 = 1; n2 = 1 }) (only (1 ·2^ 1)) (int 1 ∷ int 1 ∷ []))
     (asked (Asks.PsiQuestion.gradient (only (1 ·2^ 1))) ▷ vector (only (int 1))
     ∷ asked (Asks.PsiQuestion.f1 (only (1 ·2^ 1))) ▷ vector (only (int 1))
@@ -140,9 +149,9 @@ pub corner-183 :
     ∷ says (ended (failed 44))
     ∷ [])
 unfolding allPsi Shows spoken
-corner-183 = refl
+d-psi-y-by-c-11 = refl
 
-pub corner-184 :
+pub d-psi-y-by-c-12 :
     Shows (startDPsi binary64 (record { n = 1; n1 = 1; n2 = 1 }) (only (1 ·2^ 1)) (int 1 ∷ int 1 ∷ []))
     (asked (Asks.PsiQuestion.gradient (only (1 ·2^ 1))) ▷ vector (only (int 1))
     ∷ asked (Asks.PsiQuestion.f1 (only (1 ·2^ 1))) ▷ vector (only (int 1))
@@ -152,9 +161,9 @@ pub corner-184 :
     ∷ says (ended (failed 45))
     ∷ [])
 unfolding allPsi Shows spoken
-corner-184 = refl
+d-psi-y-by-c-12 = refl
 
-pub corner-185 :
+pub d-psi-y-by-c-13 :
     Shows (startDPsi binary64 (record { n = 1; n1 = 1; n2 = 1 }) (only (1 ·2^ 1)) (int 1 ∷ int 1 ∷ []))
     (asked (Asks.PsiQuestion.gradient (only (1 ·2^ 1))) ▷ vector (only (int 1))
     ∷ asked (Asks.PsiQuestion.f1 (only (1 ·2^ 1))) ▷ vector (only (int 1))
@@ -165,4 +174,4 @@ pub corner-185 :
     ∷ says (ended (failed 46))
     ∷ [])
 unfolding allPsi Shows spoken
-corner-185 = refl
+d-psi-y-by-c-13 = refl

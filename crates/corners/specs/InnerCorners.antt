@@ -14,163 +14,163 @@ use Rattle.corners.specs.Shown.{Shows, spoken}
 
 -- ---- starts: the sizes, and the lower number first
 
-pub corner-1 :
+pub starts-the-sizes-1 :
     Shows (startInner binary64 (record { n = 0; limit = 1; limited = false; tolerance = int 1; akkt = none }) [])
     (says (ended (refused 1))
     ∷ [])
 unfolding allInner Shows spoken
-corner-1 = refl
+starts-the-sizes-1 = refl
 
-pub corner-2 :
+pub starts-the-sizes-2 :
     Shows (startInner binary64 (record { n = 65; limit = 1; limited = false; tolerance = int 1; akkt = none }) (null ∷ null ∷ null ∷ []))
     (says (ended (refused 1))
     ∷ [])
 unfolding allInner Shows spoken
-corner-2 = refl
+starts-the-sizes-2 = refl
 
-pub corner-3 :
+pub starts-the-sizes-3 :
     Shows (startInner binary64 (record { n = 2; limit = 1; limited = false; tolerance = int 1; akkt = none }) (only null))
     (says (ended (refused 1))
     ∷ [])
 unfolding allInner Shows spoken
-corner-3 = refl
+starts-the-sizes-3 = refl
 
-pub corner-4 :
+pub starts-the-sizes-4 :
     Shows (startInner binary64 (record { n = 1; limit = 1; limited = false; tolerance = int 1; akkt = none }) (null ∷ null ∷ []))
     (says (ended (refused 1))
     ∷ [])
 unfolding allInner Shows spoken
-corner-4 = refl
+starts-the-sizes-4 = refl
 
-pub corner-5 :
+pub starts-the-sizes-5 :
     Shows (startInner binary64 (record { n = 18446744073709551615; limit = 1; limited = false; tolerance = int 1; akkt = none }) (only null))
     (says (ended (refused 1))
     ∷ [])
 unfolding allInner Shows spoken
-corner-5 = refl
+starts-the-sizes-5 = refl
 
-pub corner-6 :
+pub starts-the-sizes-6 :
     Shows (startInner binary64 (record { n = 0; limit = 0; limited = false; tolerance = null; akkt = none }) [])
     (says (ended (refused 1))
     ∷ [])
 unfolding allInner Shows spoken
-corner-6 = refl
+starts-the-sizes-6 = refl
 
-pub corner-7 :
+pub starts-the-sizes-7 :
     Shows (startInner binary64 (record { n = 1; limit = 10000; limited = false; tolerance = int 1; akkt = none }) (only null))
     (says (asked (Asks.Question.cost (only null)))
     ∷ [])
 unfolding allInner Shows spoken
-corner-7 = refl
+starts-the-sizes-7 = refl
 
-pub corner-8 :
+pub starts-the-sizes-8 :
     Shows (startInner binary64 (record { n = 1; limit = 10001; limited = false; tolerance = int 1; akkt = none }) (only null))
     (says (ended (refused 3))
     ∷ [])
 unfolding allInner Shows spoken
-corner-8 = refl
+starts-the-sizes-8 = refl
 
-pub corner-9 :
+pub starts-the-sizes-9 :
     Shows (startInner binary64 (record { n = 1; limit = 0; limited = false; tolerance = int 1; akkt = none }) (only null))
     (says (ended (refused 3))
     ∷ [])
 unfolding allInner Shows spoken
-corner-9 = refl
+starts-the-sizes-9 = refl
 
-pub corner-10 :
+pub starts-the-sizes-10 :
     Shows (startInner binary64 (record { n = 1; limit = 10001; limited = false; tolerance = neg (int 1); akkt = none }) (only null))
     (says (ended (refused 3))
     ∷ [])
 unfolding allInner Shows spoken
-corner-10 = refl
+starts-the-sizes-10 = refl
 
-pub corner-11 :
+pub starts-the-sizes-11 :
     Shows (startInner binary64 (record { n = 1; limit = 1; limited = false; tolerance = null; akkt = none }) (only null))
     (says (ended (refused 4))
     ∷ [])
 unfolding allInner Shows spoken
-corner-11 = refl
+starts-the-sizes-11 = refl
 
-pub corner-12 :
+pub starts-the-sizes-12 :
     Shows (startInner binary64 (record { n = 1; limit = 1; limited = false; tolerance = neg (null); akkt = none }) (only null))
     (says (ended (refused 4))
     ∷ [])
 unfolding allInner Shows spoken
-corner-12 = refl
+starts-the-sizes-12 = refl
 
-pub corner-13 :
+pub starts-the-sizes-13 :
     Shows (startInner binary64 (record { n = 1; limit = 1; limited = false; tolerance = nan; akkt = none }) (only null))
     (says (ended (refused 4))
     ∷ [])
 unfolding allInner Shows spoken
-corner-13 = refl
+starts-the-sizes-13 = refl
 
-pub corner-14 :
+pub starts-the-sizes-14 :
     Shows (startInner binary64 (record { n = 1; limit = 1; limited = false; tolerance = inf false; akkt = none }) (only null))
     (says (ended (refused 4))
     ∷ [])
 unfolding allInner Shows spoken
-corner-14 = refl
+starts-the-sizes-14 = refl
 
-pub corner-15 :
+pub starts-the-sizes-15 :
     Shows (startInner binary64 (record { n = 1; limit = 1; limited = false; tolerance = neg (int 1); akkt = none }) (only null))
     (says (ended (refused 4))
     ∷ [])
 unfolding allInner Shows spoken
-corner-15 = refl
+starts-the-sizes-15 = refl
 
-pub corner-16 :
+pub starts-the-sizes-16 :
     Shows (startInner binary64 (record { n = 1; limit = 1; limited = false; tolerance = 1 /2^ 1074; akkt = none }) (only null))
     (says (asked (Asks.Question.cost (only null)))
     ∷ [])
 unfolding allInner Shows spoken
-corner-16 = refl
+starts-the-sizes-16 = refl
 
-pub corner-17 :
+pub starts-the-sizes-17 :
     Shows (startInner binary64 (record { n = 1; limit = 1; limited = false; tolerance = 9007199254740991 ·2^ 971; akkt = some (1 /2^ 1074) }) (only null))
     (says (asked (Asks.Question.cost (only null)))
     ∷ [])
 unfolding allInner Shows spoken
-corner-17 = refl
+starts-the-sizes-17 = refl
 
-pub corner-18 :
+pub starts-the-sizes-18 :
     Shows (startInner binary64 (record { n = 1; limit = 1; limited = false; tolerance = int 1; akkt = some null }) (only null))
     (says (ended (refused 4))
     ∷ [])
 unfolding allInner Shows spoken
-corner-18 = refl
+starts-the-sizes-18 = refl
 
-pub corner-19 :
+pub starts-the-sizes-19 :
     Shows (startInner binary64 (record { n = 1; limit = 1; limited = false; tolerance = int 1; akkt = some nan }) (only null))
     (says (ended (refused 4))
     ∷ [])
 unfolding allInner Shows spoken
-corner-19 = refl
+starts-the-sizes-19 = refl
 
-pub corner-20 :
+pub starts-the-sizes-20 :
     Shows (startInner binary64 (record { n = 1; limit = 1; limited = false; tolerance = int 1; akkt = some (inf false) }) (only null))
     (says (ended (refused 4))
     ∷ [])
 unfolding allInner Shows spoken
-corner-20 = refl
+starts-the-sizes-20 = refl
 
-pub corner-21 :
+pub starts-the-sizes-21 :
     Shows (startInner binary64 (record { n = 1; limit = 1; limited = false; tolerance = int 1; akkt = some (neg (int 1)) }) (only null))
     (says (ended (refused 4))
     ∷ [])
 unfolding allInner Shows spoken
-corner-21 = refl
+starts-the-sizes-21 = refl
 
-pub corner-22 :
+pub starts-the-sizes-22 :
     Shows (startInner binary64 (record { n = 1; limit = 1; limited = false; tolerance = int 1; akkt = none }) (only nan))
     (says (asked (Asks.Question.cost (only nan)))
     ∷ [])
 unfolding allInner Shows spoken
-corner-22 = refl
+starts-the-sizes-22 = refl
 
 -- ---- the shift: negative, zero and NaN get 1e-12; 1e-6 × s where that is more
 
-pub corner-73 :
+pub the-shift-negative-1 :
     Shows (startInner binary64 (record { n = 6; limit = 1; limited = false; tolerance = 1 /2^ 1; akkt = none }) (neg (1 ·2^ 1) ∷ null ∷ 1 ·2^ 1 ∷ nan ∷ 4722366482869645 /2^ 72 ∷ 2361183241434823 /2^ 71 ∷ []))
     (asked (Asks.Question.cost (neg (1 ·2^ 1) ∷ null ∷ 1 ·2^ 1 ∷ nan ∷ 4722366482869645 /2^ 72 ∷ 2361183241434823 /2^ 71 ∷ [])) ▷ number null
     ∷ asked (Asks.Question.gradient (neg (1 ·2^ 1) ∷ null ∷ 1 ·2^ 1 ∷ nan ∷ 4722366482869645 /2^ 72 ∷ 2361183241434823 /2^ 71 ∷ [])) ▷ vector (null ∷ null ∷ null ∷ null ∷ null ∷ null ∷ [])
@@ -185,11 +185,11 @@ pub corner-73 :
     ∷ says (ended (handed (record { plan = (null ∷ null ∷ null ∷ null ∷ null ∷ null ∷ []); status = notConvergedIterations; iterations = 1; norm = null; cost = null })))
     ∷ [])
 unfolding allInner Shows spoken
-corner-73 = refl
+the-shift-negative-1 = refl
 
 -- ---- L: NaN gives the largest γ and no doubling
 
-pub corner-74 :
+pub L-NaN-gives-the-largest-and-no-doubling-1 :
     Shows (startInner binary64 (record { n = 1; limit = 1; limited = false; tolerance = 1 /2^ 1; akkt = none }) (only null))
     (asked (Asks.Question.cost (only null)) ▷ number null
     ∷ asked (Asks.Question.gradient (only null)) ▷ vector (only null)
@@ -204,11 +204,11 @@ pub corner-74 :
     ∷ says (ended (handed (record { plan = (only (int 1)); status = notConvergedIterations; iterations = 1; norm = null; cost = null })))
     ∷ [])
 unfolding allInner Shows spoken
-corner-74 = refl
+L-NaN-gives-the-largest-and-no-doubling-1 = refl
 
 -- ---- L: 0 stays 0 when doubled; ten rounds and no more
 
-pub corner-75 :
+pub L-0-stays-0-when-doubled-1 :
     Shows (startInner binary64 (record { n = 1; limit = 1; limited = false; tolerance = 1 /2^ 1; akkt = none }) (only null))
     (asked (Asks.Question.cost (only null)) ▷ number null
     ∷ asked (Asks.Question.gradient (only null)) ▷ vector (only (int 1))
@@ -243,11 +243,11 @@ pub corner-75 :
     ∷ says (ended (handed (record { plan = (only (int 1)); status = notConvergedIterations; iterations = 1; norm = null; cost = null })))
     ∷ [])
 unfolding allInner Shows spoken
-corner-75 = refl
+L-0-stays-0-when-doubled-1 = refl
 
 -- ---- L: infinite gives γ = 0
 
-pub corner-76 :
+pub L-infinite-gives-0-1 :
     Shows (startInner binary64 (record { n = 1; limit = 1; limited = false; tolerance = 1 /2^ 1; akkt = none }) (only null))
     (asked (Asks.Question.cost (only null)) ▷ number null
     ∷ asked (Asks.Question.gradient (only null)) ▷ vector (only (int 1))
@@ -267,11 +267,11 @@ pub corner-76 :
     ∷ says (ended (handed (record { plan = (only null); status = notConvergedIterations; iterations = 1; norm = null; cost = 1 ·2^ 1 })))
     ∷ [])
 unfolding allInner Shows spoken
-corner-76 = refl
+L-infinite-gives-0-1 = refl
 
 -- ---- L: at 1e9 and above no doubling; just below, one round
 
-pub corner-77 :
+pub L-at-1e9-and-above-no-doubling-1 :
     Shows (startInner binary64 (record { n = 1; limit = 1; limited = false; tolerance = 1 /2^ 1; akkt = none }) (only null))
     (asked (Asks.Question.cost (only null)) ▷ number null
     ∷ asked (Asks.Question.gradient (only null)) ▷ vector (only null)
@@ -282,9 +282,9 @@ pub corner-77 :
     ∷ says (asked (Asks.Question.cost (only (int 1))))
     ∷ [])
 unfolding allInner Shows spoken
-corner-77 = refl
+L-at-1e9-and-above-no-doubling-1 = refl
 
-pub corner-78 :
+pub L-at-1e9-and-above-no-doubling-2 :
     Shows (startInner binary64 (record { n = 1; limit = 1; limited = false; tolerance = 1 /2^ 1; akkt = none }) (only null))
     (asked (Asks.Question.cost (only null)) ▷ number null
     ∷ asked (Asks.Question.gradient (only null)) ▷ vector (only null)
@@ -297,11 +297,11 @@ pub corner-78 :
     ∷ says (asked (Asks.Question.cost (only (int 1))))
     ∷ [])
 unfolding allInner Shows spoken
-corner-78 = refl
+L-at-1e9-and-above-no-doubling-2 = refl
 
 -- ---- scoring: norms 3, 1, 1, the second is kept
 
-pub corner-79 :
+pub scoring-norms-3-1 :
     Shows (startInner binary64 (record { n = 1; limit = 1; limited = false; tolerance = 1 /2^ 1; akkt = none }) (only null))
     (asked (Asks.Question.cost (only null)) ▷ number null
     ∷ asked (Asks.Question.gradient (only null)) ▷ vector (only null)
@@ -321,11 +321,11 @@ pub corner-79 :
     ∷ says (ended (handed (record { plan = (only (neg (1 ·2^ 1))); status = notConvergedIterations; iterations = 1; norm = int 1; cost = int 7 })))
     ∷ [])
 unfolding allInner Shows spoken
-corner-79 = refl
+scoring-norms-3-1 = refl
 
 -- ---- scoring: norms that are infinite leave zeros with infinity
 
-pub corner-80 :
+pub scoring-norms-that-are-infinite-leave-zeros-with-infinity-1 :
     Shows (startInner binary64 (record { n = 1; limit = 1; limited = false; tolerance = 1 /2^ 1; akkt = none }) (only null))
     (asked (Asks.Question.cost (only null)) ▷ number null
     ∷ asked (Asks.Question.gradient (only null)) ▷ vector (only null)
@@ -345,11 +345,11 @@ pub corner-80 :
     ∷ says (ended (handed (record { plan = (only null); status = notConvergedIterations; iterations = 1; norm = inf false; cost = int 5 })))
     ∷ [])
 unfolding allInner Shows spoken
-corner-80 = refl
+scoring-norms-that-are-infinite-leave-zeros-with-infinity-1 = refl
 
 -- ---- scoring: NaN, then infinity; the last u is NaN (15)
 
-pub corner-81 :
+pub scoring-NaN-1 :
     Shows (startInner binary64 (record { n = 2; limit = 1; limited = false; tolerance = 1 /2^ 1; akkt = none }) (null ∷ int 1 ∷ []))
     (asked (Asks.Question.cost (null ∷ int 1 ∷ [])) ▷ number null
     ∷ asked (Asks.Question.gradient (null ∷ int 1 ∷ [])) ▷ vector (null ∷ null ∷ [])
@@ -369,11 +369,11 @@ pub corner-81 :
     ∷ says (turned 6)
     ∷ [])
 unfolding allInner Shows spoken
-corner-81 = refl
+scoring-NaN-1 = refl
 
 -- ---- norm 0 is below every tolerance
 
-pub corner-82 :
+pub norm-0-is-below-every-tolerance-1 :
     Shows (startInner binary64 (record { n = 1; limit = 1; limited = false; tolerance = 1 /2^ 1074; akkt = none }) (only null))
     (asked (Asks.Question.cost (only null)) ▷ number null
     ∷ asked (Asks.Question.gradient (only null)) ▷ vector (only null)
@@ -383,11 +383,11 @@ pub corner-82 :
     ∷ says (ended (handed (record { plan = (only (4951760157141521 /2^ 92)); status = converged; iterations = 0; norm = null; cost = null })))
     ∷ [])
 unfolding allInner Shows spoken
-corner-82 = refl
+norm-0-is-below-every-tolerance-1 = refl
 
 -- ---- the root of 2^-1074 is 2^-537; a square that vanishes gives norm 0
 
-pub corner-83 :
+pub the-root-of-2-1074-is-2-537-1 :
     Shows (startInner binary64 (record { n = 1; limit = 1; limited = false; tolerance = 5438853046443695 /2^ 617; akkt = none }) (only (neg (int 1))))
     (asked (Asks.Question.cost (only (neg (int 1)))) ▷ number null
     ∷ asked (Asks.Question.gradient (only (neg (int 1)))) ▷ vector (only null)
@@ -407,9 +407,9 @@ pub corner-83 :
     ∷ says (ended (handed (record { plan = (only (1 /2^ 537)); status = notConvergedIterations; iterations = 1; norm = 1 /2^ 537; cost = int 5 })))
     ∷ [])
 unfolding allInner Shows spoken
-corner-83 = refl
+the-root-of-2-1074-is-2-537-1 = refl
 
-pub corner-84 :
+pub the-root-of-2-1074-is-2-537-2 :
     Shows (startInner binary64 (record { n = 1; limit = 1; limited = false; tolerance = 5438853046443695 /2^ 617; akkt = none }) (only (neg (int 1))))
     (asked (Asks.Question.cost (only (neg (int 1)))) ▷ number null
     ∷ asked (Asks.Question.gradient (only (neg (int 1)))) ▷ vector (only null)
@@ -424,11 +424,11 @@ pub corner-84 :
     ∷ says (ended (handed (record { plan = (only (8104522595470689 /2^ 591)); status = notConvergedIterations; iterations = 1; norm = null; cost = int 5 })))
     ∷ [])
 unfolding allInner Shows spoken
-corner-84 = refl
+the-root-of-2-1074-is-2-537-2 = refl
 
 -- ---- norm √2, then 2
 
-pub corner-85 :
+pub norm-2-1 :
     Shows (startInner binary64 (record { n = 2; limit = 1; limited = false; tolerance = 1 /2^ 1; akkt = none }) (neg (4951760157141521 /2^ 92) ∷ neg (4951760157141521 /2^ 92) ∷ []))
     (asked (Asks.Question.cost (neg (4951760157141521 /2^ 92) ∷ neg (4951760157141521 /2^ 92) ∷ [])) ▷ number null
     ∷ asked (Asks.Question.gradient (neg (4951760157141521 /2^ 92) ∷ neg (4951760157141521 /2^ 92) ∷ [])) ▷ vector (null ∷ null ∷ [])
@@ -448,11 +448,11 @@ pub corner-85 :
     ∷ says (ended (handed (record { plan = (int 1 ∷ int 1 ∷ []); status = notConvergedIterations; iterations = 1; norm = 6369051672525773 /2^ 52; cost = null })))
     ∷ [])
 unfolding allInner Shows spoken
-corner-85 = refl
+norm-2-1 = refl
 
 -- ---- the root of the largest float; the others are infinite
 
-pub corner-86 :
+pub the-root-of-the-largest-float-1 :
     Shows (startInner binary64 (record { n = 2; limit = 1; limited = false; tolerance = 1 /2^ 1; akkt = none }) (neg (4951760157141521 /2^ 92) ∷ neg (4951760157141521 /2^ 92) ∷ []))
     (asked (Asks.Question.cost (neg (4951760157141521 /2^ 92) ∷ neg (4951760157141521 /2^ 92) ∷ [])) ▷ number null
     ∷ asked (Asks.Question.gradient (neg (4951760157141521 /2^ 92) ∷ neg (4951760157141521 /2^ 92) ∷ [])) ▷ vector (null ∷ null ∷ [])
@@ -472,11 +472,11 @@ pub corner-86 :
     ∷ says (ended (handed (record { plan = (neg (9007199254740991 ·2^ 459) ∷ neg (5 ·2^ 483) ∷ []); status = notConvergedIterations; iterations = 1; norm = 9007199254740991 ·2^ 459; cost = int 5 })))
     ∷ [])
 unfolding allInner Shows spoken
-corner-86 = refl
+the-root-of-the-largest-float-1 = refl
 
 -- ---- the tolerance: a norm equal to it does not pass, one below it does
 
-pub corner-87 :
+pub the-tolerance-a-norm-equal-to-it-does-not-pass-1 :
     Shows (startInner binary64 (record { n = 1; limit = 2; limited = false; tolerance = int 1; akkt = none }) (only null))
     (asked (Asks.Question.cost (only null)) ▷ number null
     ∷ asked (Asks.Question.gradient (only null)) ▷ vector (only null)
@@ -496,11 +496,11 @@ pub corner-87 :
     ∷ says (ended (handed (record { plan = (only (4503599627370497 /2^ 52)); status = notConvergedIterations; iterations = 2; norm = 1 /2^ 52; cost = 1 ·2^ 2 })))
     ∷ [])
 unfolding allInner Shows spoken
-corner-87 = refl
+the-tolerance-a-norm-equal-to-it-does-not-pass-1 = refl
 
 -- ---- AKKT: at the first step γ × gradient is part of it, later it equals the norm
 
-pub corner-88 :
+pub AKKT-at-the-first-step-gradient-is-part-of-it-1 :
     Shows (startInner binary64 (record { n = 1; limit = 3; limited = false; tolerance = 1 ·2^ 1; akkt = some (int 1) }) (only null))
     (asked (Asks.Question.cost (only null)) ▷ number null
     ∷ asked (Asks.Question.gradient (only null)) ▷ vector (only (int 1))
@@ -515,9 +515,9 @@ pub corner-88 :
     ∷ says (ended (handed (record { plan = (only (1 /2^ 1)); status = converged; iterations = 1; norm = 4503599627361489 /2^ 53; cost = int 3 })))
     ∷ [])
 unfolding allInner Shows spoken
-corner-88 = refl
+AKKT-at-the-first-step-gradient-is-part-of-it-1 = refl
 
-pub corner-89 :
+pub AKKT-at-the-first-step-gradient-is-part-of-it-2 :
     Shows (startInner binary64 (record { n = 1; limit = 3; limited = false; tolerance = 1 ·2^ 1; akkt = some (int 1) }) (only null))
     (asked (Asks.Question.cost (only null)) ▷ number null
     ∷ asked (Asks.Question.gradient (only null)) ▷ vector (only (4951760157141521 /2^ 92))
@@ -527,9 +527,9 @@ pub corner-89 :
     ∷ says (ended (handed (record { plan = (only (1 /2^ 1)); status = converged; iterations = 0; norm = 4503599627361489 /2^ 53; cost = int 3 })))
     ∷ [])
 unfolding allInner Shows spoken
-corner-89 = refl
+AKKT-at-the-first-step-gradient-is-part-of-it-2 = refl
 
-pub corner-90 :
+pub AKKT-at-the-first-step-gradient-is-part-of-it-3 :
     Shows (startInner binary64 (record { n = 1; limit = 3; limited = false; tolerance = 1 ·2^ 1; akkt = some (int 1) }) (only null))
     (asked (Asks.Question.cost (only null)) ▷ number null
     ∷ asked (Asks.Question.gradient (only null)) ▷ vector (only null)
@@ -549,11 +549,11 @@ pub corner-90 :
     ∷ says (ended (handed (record { plan = (only (4503599627370497 /2^ 52)); status = converged; iterations = 2; norm = 4503599627370495 /2^ 52; cost = int 1 })))
     ∷ [])
 unfolding allInner Shows spoken
-corner-90 = refl
+AKKT-at-the-first-step-gradient-is-part-of-it-3 = refl
 
 -- ---- M = 1: the second step passes its test and the end is NotConvergedIterations all the same
 
-pub corner-91 :
+pub M-1-the-second-step-passes-its-test-and-the-end-is-NotConvergedIterations-all-the-same-1 :
     Shows (startInner binary64 (record { n = 1; limit = 1; limited = false; tolerance = int 1; akkt = none }) (only null))
     (asked (Asks.Question.cost (only null)) ▷ number null
     ∷ asked (Asks.Question.gradient (only null)) ▷ vector (only null)
@@ -568,9 +568,9 @@ pub corner-91 :
     ∷ says (ended (handed (record { plan = (only (5 /2^ 1)); status = notConvergedIterations; iterations = 1; norm = 1 /2^ 1; cost = int 1 })))
     ∷ [])
 unfolding allInner Shows spoken
-corner-91 = refl
+M-1-the-second-step-passes-its-test-and-the-end-is-NotConvergedIterations-all-the-same-1 = refl
 
-pub corner-92 :
+pub M-1-the-second-step-passes-its-test-and-the-end-is-NotConvergedIterations-all-the-same-2 :
     Shows (startInner binary64 (record { n = 1; limit = 2; limited = false; tolerance = int 1; akkt = none }) (only null))
     (asked (Asks.Question.cost (only null)) ▷ number null
     ∷ asked (Asks.Question.gradient (only null)) ▷ vector (only null)
@@ -585,9 +585,9 @@ pub corner-92 :
     ∷ says (ended (handed (record { plan = (only (5 /2^ 1)); status = converged; iterations = 1; norm = 1 /2^ 1; cost = int 1 })))
     ∷ [])
 unfolding allInner Shows spoken
-corner-92 = refl
+M-1-the-second-step-passes-its-test-and-the-end-is-NotConvergedIterations-all-the-same-2 = refl
 
-pub corner-93 :
+pub M-1-the-second-step-passes-its-test-and-the-end-is-NotConvergedIterations-all-the-same-3 :
     Shows (startInner binary64 (record { n = 1; limit = 1; limited = false; tolerance = int 1; akkt = none }) (only null))
     (asked (Asks.Question.cost (only null)) ▷ number null
     ∷ asked (Asks.Question.gradient (only null)) ▷ vector (only null)
@@ -597,11 +597,11 @@ pub corner-93 :
     ∷ says (ended (handed (record { plan = (only (1 /2^ 2)); status = converged; iterations = 0; norm = 9007199254704963 /2^ 55; cost = int 1 })))
     ∷ [])
 unfolding allInner Shows spoken
-corner-93 = refl
+M-1-the-second-step-passes-its-test-and-the-end-is-NotConvergedIterations-all-the-same-3 = refl
 
 -- ---- TIME: a no, then a step that passes; a no, then a step that does not; a no where M is reached
 
-pub corner-94 :
+pub TIME-a-no-1 :
     Shows (startInner binary64 (record { n = 1; limit = 5; limited = true; tolerance = int 1; akkt = none }) (only null))
     (asked (Asks.Question.cost (only null)) ▷ number null
     ∷ asked (Asks.Question.gradient (only null)) ▷ vector (only null)
@@ -617,9 +617,9 @@ pub corner-94 :
     ∷ says (ended (handed (record { plan = (only (5 /2^ 1)); status = notConvergedOutOfTime; iterations = 1; norm = 1 /2^ 1; cost = int 1 })))
     ∷ [])
 unfolding allInner Shows spoken
-corner-94 = refl
+TIME-a-no-1 = refl
 
-pub corner-95 :
+pub TIME-a-no-2 :
     Shows (startInner binary64 (record { n = 1; limit = 5; limited = true; tolerance = int 1; akkt = none }) (only null))
     (asked (Asks.Question.cost (only null)) ▷ number null
     ∷ asked (Asks.Question.gradient (only null)) ▷ vector (only null)
@@ -640,9 +640,9 @@ pub corner-95 :
     ∷ says (ended (handed (record { plan = (only (1 ·2^ 1)); status = notConvergedOutOfTime; iterations = 1; norm = 1125899906842061 /2^ 49; cost = int 1 })))
     ∷ [])
 unfolding allInner Shows spoken
-corner-95 = refl
+TIME-a-no-2 = refl
 
-pub corner-96 :
+pub TIME-a-no-3 :
     Shows (startInner binary64 (record { n = 1; limit = 1; limited = true; tolerance = int 1; akkt = none }) (only null))
     (asked (Asks.Question.cost (only null)) ▷ number null
     ∷ asked (Asks.Question.gradient (only null)) ▷ vector (only null)
@@ -663,9 +663,9 @@ pub corner-96 :
     ∷ says (ended (handed (record { plan = (only (1 ·2^ 1)); status = notConvergedIterations; iterations = 1; norm = 1125899906842061 /2^ 49; cost = int 1 })))
     ∷ [])
 unfolding allInner Shows spoken
-corner-96 = refl
+TIME-a-no-3 = refl
 
-pub corner-97 :
+pub TIME-a-no-4 :
     Shows (startInner binary64 (record { n = 1; limit = 5; limited = true; tolerance = int 1; akkt = none }) (only null))
     (asked (Asks.Question.cost (only null)) ▷ number null
     ∷ asked (Asks.Question.gradient (only null)) ▷ vector (only null)
@@ -687,11 +687,11 @@ pub corner-97 :
     ∷ says (ended (handed (record { plan = (only (5 /2^ 1)); status = converged; iterations = 2; norm = 1 /2^ 1; cost = int 1 })))
     ∷ [])
 unfolding allInner Shows spoken
-corner-97 = refl
+TIME-a-no-4 = refl
 
 -- ---- half steps made while doubling are not scored
 
-pub corner-98 :
+pub half-steps-made-while-doubling-are-not-scored-1 :
     Shows (startInner binary64 (record { n = 1; limit = 1; limited = false; tolerance = 1 /2^ 1; akkt = none }) (only null))
     (asked (Asks.Question.cost (only null)) ▷ number null
     ∷ asked (Asks.Question.gradient (only null)) ▷ vector (only null)
@@ -713,11 +713,11 @@ pub corner-98 :
     ∷ says (ended (handed (record { plan = (only (1 ·2^ 1)); status = notConvergedIterations; iterations = 1; norm = 15 /2^ 3; cost = int 7 })))
     ∷ [])
 unfolding allInner Shows spoken
-corner-98 = refl
+half-steps-made-while-doubling-are-not-scored-1 = refl
 
 -- ---- an eleventh candidate is accepted; σ and γ after doubling
 
-pub corner-99 :
+pub an-eleventh-candidate-is-accepted-1 :
     Shows (startInner binary64 (record { n = 1; limit = 1; limited = false; tolerance = 1 /2^ 1; akkt = none }) (only (int 1)))
     (asked (Asks.Question.cost (only (int 1))) ▷ number (int 1)
     ∷ asked (Asks.Question.gradient (only (int 1))) ▷ vector (only (int 1))
@@ -769,11 +769,11 @@ pub corner-99 :
     ∷ says (ended (handed (record { plan = (only null); status = notConvergedIterations; iterations = 1; norm = 4503604130970123 /2^ 52; cost = 1 ·2^ 1 })))
     ∷ [])
 unfolding allInner Shows spoken
-corner-99 = refl
+an-eleventh-candidate-is-accepted-1 = refl
 
 -- ---- the fallback after ten halvings is overwritten by the last candidate
 
-pub corner-100 :
+pub the-fallback-after-ten-halvings-is-overwritten-by-the-last-candidate-1 :
     Shows (startInner binary64 (record { n = 1; limit = 2; limited = false; tolerance = 1 /2^ 1; akkt = none }) (only (int 1)))
     (asked (Asks.Question.cost (only (int 1))) ▷ number (int 1)
     ∷ asked (Asks.Question.gradient (only (int 1))) ▷ vector (only (int 1))
@@ -828,11 +828,11 @@ pub corner-100 :
     ∷ says (ended (handed (record { plan = (only (neg (int 1))); status = notConvergedIterations; iterations = 2; norm = int 1; cost = 1 ·2^ 1 })))
     ∷ [])
 unfolding allInner Shows spoken
-corner-100 = refl
+the-fallback-after-ten-halvings-is-overwritten-by-the-last-candidate-1 = refl
 
 -- ---- 10: after the third answer, for the first cost and gradient; a shifted gradient that is not finite is taken
 
-pub corner-101 :
+pub at-10-after-the-third-answer-1 :
     Shows (startInner binary64 (record { n = 1; limit = 1; limited = false; tolerance = int 1; akkt = none }) (only null))
     (asked (Asks.Question.cost (only null)) ▷ number nan
     ∷ asked (Asks.Question.gradient (only null)) ▷ vector (only (int 1))
@@ -840,9 +840,9 @@ pub corner-101 :
     ∷ says (ended (refused 10))
     ∷ [])
 unfolding allInner Shows spoken
-corner-101 = refl
+at-10-after-the-third-answer-1 = refl
 
-pub corner-102 :
+pub at-10-after-the-third-answer-2 :
     Shows (startInner binary64 (record { n = 2; limit = 1; limited = false; tolerance = int 1; akkt = none }) (null ∷ null ∷ []))
     (asked (Asks.Question.cost (null ∷ null ∷ [])) ▷ number (int 1)
     ∷ asked (Asks.Question.gradient (null ∷ null ∷ [])) ▷ vector (int 1 ∷ inf false ∷ [])
@@ -851,9 +851,9 @@ pub corner-102 :
     ∷ says (turned 6)
     ∷ [])
 unfolding allInner Shows spoken
-corner-102 = refl
+at-10-after-the-third-answer-2 = refl
 
-pub corner-103 :
+pub at-10-after-the-third-answer-3 :
     Shows (startInner binary64 (record { n = 1; limit = 1; limited = false; tolerance = int 1; akkt = none }) (only null))
     (asked (Asks.Question.cost (only null)) ▷ number (inf true)
     ∷ asked (Asks.Question.gradient (only null)) ▷ vector (only nan)
@@ -861,9 +861,9 @@ pub corner-103 :
     ∷ says (ended (refused 10))
     ∷ [])
 unfolding allInner Shows spoken
-corner-103 = refl
+at-10-after-the-third-answer-3 = refl
 
-pub corner-104 :
+pub at-10-after-the-third-answer-4 :
     Shows (startInner binary64 (record { n = 2; limit = 1; limited = false; tolerance = int 1; akkt = none }) (null ∷ null ∷ []))
     (asked (Asks.Question.cost (null ∷ null ∷ [])) ▷ number (int 1)
     ∷ asked (Asks.Question.gradient (null ∷ null ∷ [])) ▷ vector (int 1 ∷ int 1 ∷ [])
@@ -872,11 +872,11 @@ pub corner-104 :
     ∷ says (asked (Asks.Question.cost (int 1 ∷ int 1 ∷ [])))
     ∷ [])
 unfolding allInner Shows spoken
-corner-104 = refl
+at-10-after-the-third-answer-4 = refl
 
 -- ---- 11 and 12
 
-pub corner-105 :
+pub at-11-and-12-1 :
     Shows (startInner binary64 (record { n = 1; limit = 1; limited = false; tolerance = int 1; akkt = none }) (only null))
     (asked (Asks.Question.cost (only null)) ▷ number null
     ∷ asked (Asks.Question.gradient (only null)) ▷ vector (only null)
@@ -887,9 +887,9 @@ pub corner-105 :
     ∷ says (turned 6)
     ∷ [])
 unfolding allInner Shows spoken
-corner-105 = refl
+at-11-and-12-1 = refl
 
-pub corner-106 :
+pub at-11-and-12-2 :
     Shows (startInner binary64 (record { n = 1; limit = 1; limited = false; tolerance = int 1; akkt = none }) (only null))
     (asked (Asks.Question.cost (only null)) ▷ number null
     ∷ asked (Asks.Question.gradient (only null)) ▷ vector (only null)
@@ -899,9 +899,9 @@ pub corner-106 :
     ∷ says (ended (refused 11))
     ∷ [])
 unfolding allInner Shows spoken
-corner-106 = refl
+at-11-and-12-2 = refl
 
-pub corner-107 :
+pub at-11-and-12-3 :
     Shows (startInner binary64 (record { n = 1; limit = 1; limited = false; tolerance = int 1; akkt = none }) (only null))
     (asked (Asks.Question.cost (only null)) ▷ number null
     ∷ asked (Asks.Question.gradient (only null)) ▷ vector (only null)
@@ -913,9 +913,9 @@ pub corner-107 :
     ∷ says (ended (refused 12))
     ∷ [])
 unfolding allInner Shows spoken
-corner-107 = refl
+at-11-and-12-3 = refl
 
-pub corner-108 :
+pub at-11-and-12-4 :
     Shows (startInner binary64 (record { n = 1; limit = 1; limited = false; tolerance = int 1; akkt = none }) (only null))
     (asked (Asks.Question.cost (only null)) ▷ number null
     ∷ asked (Asks.Question.gradient (only null)) ▷ vector (only null)
@@ -927,11 +927,11 @@ pub corner-108 :
     ∷ says (ended (refused 12))
     ∷ [])
 unfolding allInner Shows spoken
-corner-108 = refl
+at-11-and-12-4 = refl
 
 -- ---- 13 and 14 come after GRADIENT, also where the COST was not finite
 
-pub corner-109 :
+pub at-13-and-14-come-after-GRADIENT-1 :
     Shows (startInner binary64 (record { n = 1; limit = 1; limited = false; tolerance = int 1; akkt = none }) (only null))
     (asked (Asks.Question.cost (only null)) ▷ number null
     ∷ asked (Asks.Question.gradient (only null)) ▷ vector (only null)
@@ -944,9 +944,9 @@ pub corner-109 :
     ∷ says (ended (refused 13))
     ∷ [])
 unfolding allInner Shows spoken
-corner-109 = refl
+at-13-and-14-come-after-GRADIENT-1 = refl
 
-pub corner-110 :
+pub at-13-and-14-come-after-GRADIENT-2 :
     Shows (startInner binary64 (record { n = 1; limit = 1; limited = false; tolerance = int 1; akkt = none }) (only null))
     (asked (Asks.Question.cost (only null)) ▷ number null
     ∷ asked (Asks.Question.gradient (only null)) ▷ vector (only null)
@@ -959,9 +959,9 @@ pub corner-110 :
     ∷ says (ended (refused 13))
     ∷ [])
 unfolding allInner Shows spoken
-corner-110 = refl
+at-13-and-14-come-after-GRADIENT-2 = refl
 
-pub corner-111 :
+pub at-13-and-14-come-after-GRADIENT-3 :
     Shows (startInner binary64 (record { n = 1; limit = 1; limited = false; tolerance = int 1; akkt = none }) (only null))
     (asked (Asks.Question.cost (only null)) ▷ number null
     ∷ asked (Asks.Question.gradient (only null)) ▷ vector (only null)
@@ -979,9 +979,9 @@ pub corner-111 :
     ∷ says (ended (refused 14))
     ∷ [])
 unfolding allInner Shows spoken
-corner-111 = refl
+at-13-and-14-come-after-GRADIENT-3 = refl
 
-pub corner-112 :
+pub at-13-and-14-come-after-GRADIENT-4 :
     Shows (startInner binary64 (record { n = 1; limit = 1; limited = false; tolerance = int 1; akkt = none }) (only null))
     (asked (Asks.Question.cost (only null)) ▷ number null
     ∷ asked (Asks.Question.gradient (only null)) ▷ vector (only null)
@@ -999,11 +999,11 @@ pub corner-112 :
     ∷ says (ended (refused 14))
     ∷ [])
 unfolding allInner Shows spoken
-corner-112 = refl
+at-13-and-14-come-after-GRADIENT-4 = refl
 
 -- ---- 15: a direction that is not finite; 16: the cost at the best half step
 
-pub corner-113 :
+pub at-15-a-direction-that-is-not-finite-1 :
     Shows (startInner binary64 (record { n = 1; limit = 1; limited = false; tolerance = int 1; akkt = none }) (only null))
     (asked (Asks.Question.cost (only null)) ▷ number null
     ∷ asked (Asks.Question.gradient (only null)) ▷ vector (only null)
@@ -1022,9 +1022,9 @@ pub corner-113 :
     ∷ says (ended (refused 15))
     ∷ [])
 unfolding allInner Shows spoken
-corner-113 = refl
+at-15-a-direction-that-is-not-finite-1 = refl
 
-pub corner-114 :
+pub at-15-a-direction-that-is-not-finite-2 :
     Shows (startInner binary64 (record { n = 1; limit = 1; limited = false; tolerance = int 1; akkt = none }) (only null))
     (asked (Asks.Question.cost (only null)) ▷ number null
     ∷ asked (Asks.Question.gradient (only null)) ▷ vector (only null)
@@ -1035,29 +1035,29 @@ pub corner-114 :
     ∷ says (turned 6)
     ∷ [])
 unfolding allInner Shows spoken
-corner-114 = refl
+at-15-a-direction-that-is-not-finite-2 = refl
 
 -- ---- 9 at every question that can fail, and 7 at those that cannot
 
-pub corner-115 :
+pub at-9-at-every-question-that-can-fail-1 :
     Shows (startInner binary64 (record { n = 1; limit = 1; limited = true; tolerance = int 1; akkt = none }) (only null))
     (asked (Asks.Question.cost (only null)) ▷ failure 0
     ∷ ended (failed 0) ▷ number null
     ∷ says (turned 6)
     ∷ [])
 unfolding allInner Shows spoken
-corner-115 = refl
+at-9-at-every-question-that-can-fail-1 = refl
 
-pub corner-116 :
+pub at-9-at-every-question-that-can-fail-2 :
     Shows (startInner binary64 (record { n = 1; limit = 1; limited = true; tolerance = int 1; akkt = none }) (only null))
     (asked (Asks.Question.cost (only null)) ▷ number null
     ∷ asked (Asks.Question.gradient (only null)) ▷ failure 4294967295
     ∷ says (ended (failed 4294967295))
     ∷ [])
 unfolding allInner Shows spoken
-corner-116 = refl
+at-9-at-every-question-that-can-fail-2 = refl
 
-pub corner-117 :
+pub at-9-at-every-question-that-can-fail-3 :
     Shows (startInner binary64 (record { n = 1; limit = 1; limited = true; tolerance = int 1; akkt = none }) (only null))
     (asked (Asks.Question.cost (only null)) ▷ number null
     ∷ asked (Asks.Question.gradient (only null)) ▷ vector (only null)
@@ -1065,9 +1065,9 @@ pub corner-117 :
     ∷ says (ended (failed 1))
     ∷ [])
 unfolding allInner Shows spoken
-corner-117 = refl
+at-9-at-every-question-that-can-fail-3 = refl
 
-pub corner-118 :
+pub at-9-at-every-question-that-can-fail-4 :
     Shows (startInner binary64 (record { n = 1; limit = 1; limited = true; tolerance = int 1; akkt = none }) (only null))
     (asked (Asks.Question.cost (only null)) ▷ number null
     ∷ asked (Asks.Question.gradient (only null)) ▷ vector (only null)
@@ -1076,9 +1076,9 @@ pub corner-118 :
     ∷ says (ended (failed 2))
     ∷ [])
 unfolding allInner Shows spoken
-corner-118 = refl
+at-9-at-every-question-that-can-fail-4 = refl
 
-pub corner-119 :
+pub at-9-at-every-question-that-can-fail-5 :
     Shows (startInner binary64 (record { n = 1; limit = 1; limited = true; tolerance = int 1; akkt = none }) (only null))
     (asked (Asks.Question.cost (only null)) ▷ number null
     ∷ asked (Asks.Question.gradient (only null)) ▷ vector (only null)
@@ -1088,9 +1088,9 @@ pub corner-119 :
     ∷ says (ended (failed 3))
     ∷ [])
 unfolding allInner Shows spoken
-corner-119 = refl
+at-9-at-every-question-that-can-fail-5 = refl
 
-pub corner-120 :
+pub at-9-at-every-question-that-can-fail-6 :
     Shows (startInner binary64 (record { n = 1; limit = 1; limited = true; tolerance = int 1; akkt = none }) (only null))
     (asked (Asks.Question.cost (only null)) ▷ number null
     ∷ asked (Asks.Question.gradient (only null)) ▷ vector (only null)
@@ -1101,9 +1101,9 @@ pub corner-120 :
     ∷ says (ended (failed 4))
     ∷ [])
 unfolding allInner Shows spoken
-corner-120 = refl
+at-9-at-every-question-that-can-fail-6 = refl
 
-pub corner-121 :
+pub at-9-at-every-question-that-can-fail-7 :
     Shows (startInner binary64 (record { n = 1; limit = 1; limited = true; tolerance = int 1; akkt = none }) (only null))
     (asked (Asks.Question.cost (only null)) ▷ number null
     ∷ asked (Asks.Question.gradient (only null)) ▷ vector (only null)
@@ -1115,9 +1115,9 @@ pub corner-121 :
     ∷ says (ended (failed 5))
     ∷ [])
 unfolding allInner Shows spoken
-corner-121 = refl
+at-9-at-every-question-that-can-fail-7 = refl
 
-pub corner-122 :
+pub at-9-at-every-question-that-can-fail-8 :
     Shows (startInner binary64 (record { n = 1; limit = 1; limited = true; tolerance = int 1; akkt = none }) (only null))
     (asked (Asks.Question.cost (only null)) ▷ number null
     ∷ asked (Asks.Question.gradient (only null)) ▷ vector (only null)
@@ -1133,9 +1133,9 @@ pub corner-122 :
     ∷ says (ended (failed 7))
     ∷ [])
 unfolding allInner Shows spoken
-corner-122 = refl
+at-9-at-every-question-that-can-fail-8 = refl
 
-pub corner-123 :
+pub at-9-at-every-question-that-can-fail-9 :
     Shows (startInner binary64 (record { n = 1; limit = 1; limited = true; tolerance = int 1; akkt = none }) (only null))
     (asked (Asks.Question.cost (only null)) ▷ number null
     ∷ asked (Asks.Question.gradient (only null)) ▷ vector (only null)
@@ -1148,9 +1148,9 @@ pub corner-123 :
     ∷ says (ended (failed 8))
     ∷ [])
 unfolding allInner Shows spoken
-corner-123 = refl
+at-9-at-every-question-that-can-fail-9 = refl
 
-pub corner-124 :
+pub at-9-at-every-question-that-can-fail-10 :
     Shows (startInner binary64 (record { n = 1; limit = 1; limited = true; tolerance = int 1; akkt = none }) (only null))
     (asked (Asks.Question.cost (only null)) ▷ number null
     ∷ asked (Asks.Question.gradient (only null)) ▷ vector (only null)
@@ -1164,9 +1164,9 @@ pub corner-124 :
     ∷ says (ended (failed 9))
     ∷ [])
 unfolding allInner Shows spoken
-corner-124 = refl
+at-9-at-every-question-that-can-fail-10 = refl
 
-pub corner-125 :
+pub at-9-at-every-question-that-can-fail-11 :
     Shows (startInner binary64 (record { n = 1; limit = 1; limited = true; tolerance = int 1; akkt = none }) (only null))
     (asked (Asks.Question.cost (only null)) ▷ number null
     ∷ asked (Asks.Question.gradient (only null)) ▷ vector (only null)
@@ -1187,9 +1187,9 @@ pub corner-125 :
     ∷ says (ended (failed 11))
     ∷ [])
 unfolding allInner Shows spoken
-corner-125 = refl
+at-9-at-every-question-that-can-fail-11 = refl
 
-pub corner-126 :
+pub at-9-at-every-question-that-can-fail-12 :
     Shows (startInner binary64 (record { n = 1; limit = 1; limited = true; tolerance = int 1; akkt = none }) (only null))
     (asked (Asks.Question.cost (only null)) ▷ number null
     ∷ asked (Asks.Question.gradient (only null)) ▷ vector (only null)
@@ -1208,9 +1208,9 @@ pub corner-126 :
     ∷ says (ended (failed 12))
     ∷ [])
 unfolding allInner Shows spoken
-corner-126 = refl
+at-9-at-every-question-that-can-fail-12 = refl
 
-pub corner-127 :
+pub at-9-at-every-question-that-can-fail-13 :
     Shows (startInner binary64 (record { n = 1; limit = 1; limited = true; tolerance = int 1; akkt = none }) (only null))
     (asked (Asks.Question.cost (only null)) ▷ number null
     ∷ asked (Asks.Question.gradient (only null)) ▷ vector (only null)
@@ -1230,9 +1230,9 @@ pub corner-127 :
     ∷ says (ended (failed 13))
     ∷ [])
 unfolding allInner Shows spoken
-corner-127 = refl
+at-9-at-every-question-that-can-fail-13 = refl
 
-pub corner-128 :
+pub at-9-at-every-question-that-can-fail-14 :
     Shows (startInner binary64 (record { n = 1; limit = 1; limited = true; tolerance = int 1; akkt = none }) (only null))
     (asked (Asks.Question.cost (only null)) ▷ number null
     ∷ asked (Asks.Question.gradient (only null)) ▷ vector (only null)
@@ -1243,29 +1243,59 @@ pub corner-128 :
     ∷ says (turned 6)
     ∷ [])
 unfolding allInner Shows spoken
-corner-128 = refl
+at-9-at-every-question-that-can-fail-14 = refl
+
+-- ---- 6 before 7 before 8, lent lengths before 9
+
+pub at-6-before-7-before-8-1 :
+    Shows (startInner binary64 (record { n = 2; limit = 1; limited = true; tolerance = int 1; akkt = none }) (null ∷ neg (int 3) ∷ []))
+    (asked (Asks.Question.cost (null ∷ neg (int 3) ∷ [])) ▷ yea
+    ∷ turned 7 ▷ vector (null ∷ null ∷ [])
+    ∷ turned 7 ▷ number null
+    ∷ asked (Asks.Question.gradient (null ∷ neg (int 3) ∷ [])) ▷ vector (only null)
+    ∷ turned 8 ▷ vector (null ∷ null ∷ null ∷ [])
+    ∷ turned 8 ▷ number null
+    ∷ turned 7 ▷ nay
+    ∷ turned 7 ▷ vector (null ∷ null ∷ [])
+    ∷ asked (Asks.Question.gradient (4951760157141521 /2^ 92 ∷ neg (1688849860263373 /2^ 49) ∷ [])) ▷ vector (null ∷ null ∷ [])
+    ∷ asked (Asks.Question.project (4951760157141521 /2^ 92 ∷ neg (1688849860263373 /2^ 49) ∷ [])) ▷ vector (1 /2^ 2 ∷ neg (int 3) ∷ [])
+    ∷ asked (Asks.Question.cost (1 /2^ 2 ∷ neg (int 3) ∷ [])) ▷ vector (1 /2^ 1 ∷ 1 /2^ 1 ∷ [])
+    ∷ turned 7 ▷ number (int 9)
+    ∷ says (ended (handed (record { plan = (1 /2^ 2 ∷ neg (int 3) ∷ []); status = converged; iterations = 0; norm = 9007199254704963 /2^ 55; cost = int 9 })))
+    ∷ [])
+unfolding allInner Shows spoken
+at-6-before-7-before-8-1 = refl
+
+-- ---- an inner solve lends u alone: xi may have any length
+
+pub an-inner-solve-lends-u-alone-xi-may-have-any-length-1 :
+    Shows (startInner binary64 (record { n = 1; limit = 1; limited = false; tolerance = int 1; akkt = none }) (only null))
+    (says (asked (Asks.Question.cost (only null)))
+    ∷ [])
+unfolding allInner Shows spoken
+an-inner-solve-lends-u-alone-xi-may-have-any-length-1 = refl
 
 -- ---- a start drops the open run
 
-pub corner-157 :
+pub a-start-drops-the-open-run-1 :
     Shows (startInner binary64 (record { n = 1; limit = 1; limited = false; tolerance = int 1; akkt = none }) (only null))
     (asked (Asks.Question.cost (only null)) ▷ number null
     ∷ says (asked (Asks.Question.gradient (only null)))
     ∷ [])
 unfolding allInner Shows spoken
-corner-157 = refl
+a-start-drops-the-open-run-1 = refl
 
-pub corner-158 :
+pub a-start-drops-the-open-run-2 :
     Shows (startInner binary64 (record { n = 1; limit = 0; limited = false; tolerance = int 1; akkt = none }) (only null))
     (ended (refused 3) ▷ vector (only null)
     ∷ says (turned 6)
     ∷ [])
 unfolding allInner Shows spoken
-corner-158 = refl
+a-start-drops-the-open-run-2 = refl
 
-pub corner-159 :
+pub a-start-drops-the-open-run-3 :
     Shows (startInner binary64 (record { n = 1; limit = 1; limited = false; tolerance = int 1; akkt = none }) (only (1 /2^ 1)))
     (says (asked (Asks.Question.cost (only (1 /2^ 1))))
     ∷ [])
 unfolding allInner Shows spoken
-corner-159 = refl
+a-start-drops-the-open-run-3 = refl

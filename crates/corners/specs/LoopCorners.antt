@@ -14,303 +14,303 @@ use Rattle.corners.specs.Shown.{Shows, spoken}
 
 -- ---- starts: the sizes, and the lower number first
 
-pub corner-23 :
+pub starts-the-sizes-23 :
     Shows (startLoop binary64 (record { n = 1; n1 = 0; n2 = 33; setY = false; limit = 1; outer = 1; limited = false; tolerance = int 1; epsilon = int 1; delta = int 1; akkt = int 1; penaltyFactor = 1 ·2^ 1; epsilonFactor = 1 /2^ 1; coefficient = 1 /2^ 1 }) (only null) (only (int 1)))
     (says (ended (refused 2))
     ∷ [])
 unfolding allLoop Shows spoken
-corner-23 = refl
+starts-the-sizes-23 = refl
 
-pub corner-24 :
+pub starts-the-sizes-24 :
     Shows (startLoop binary64 (record { n = 1; n1 = 18446744073709551615; n2 = 0; setY = false; limit = 1; outer = 1; limited = false; tolerance = int 1; epsilon = int 1; delta = int 1; akkt = int 1; penaltyFactor = 1 ·2^ 1; epsilonFactor = 1 /2^ 1; coefficient = 1 /2^ 1 }) (only null) [])
     (says (ended (refused 2))
     ∷ [])
 unfolding allLoop Shows spoken
-corner-24 = refl
+starts-the-sizes-24 = refl
 
-pub corner-25 :
+pub starts-the-sizes-25 :
     Shows (startLoop binary64 (record { n = 1; n1 = 0; n2 = 18446744073709551615; setY = false; limit = 1; outer = 1; limited = false; tolerance = int 1; epsilon = int 1; delta = int 1; akkt = int 1; penaltyFactor = 1 ·2^ 1; epsilonFactor = 1 /2^ 1; coefficient = 1 /2^ 1 }) (only null) (only (int 1)))
     (says (ended (refused 2))
     ∷ [])
 unfolding allLoop Shows spoken
-corner-25 = refl
+starts-the-sizes-25 = refl
 
-pub corner-26 :
+pub starts-the-sizes-26 :
     Shows (startLoop binary64 (record { n = 1; n1 = 1; n2 = 0; setY = false; limit = 1; outer = 1; limited = false; tolerance = int 1; epsilon = int 1; delta = int 1; akkt = int 1; penaltyFactor = 1 ·2^ 1; epsilonFactor = 1 /2^ 1; coefficient = 1 /2^ 1 }) (only null) (only (int 1)))
     (says (ended (refused 2))
     ∷ [])
 unfolding allLoop Shows spoken
-corner-26 = refl
+starts-the-sizes-26 = refl
 
-pub corner-27 :
+pub starts-the-sizes-27 :
     Shows (startLoop binary64 (record { n = 1; n1 = 1; n2 = 0; setY = false; limit = 1; outer = 1; limited = false; tolerance = int 1; epsilon = int 1; delta = int 1; akkt = int 1; penaltyFactor = 1 ·2^ 1; epsilonFactor = 1 /2^ 1; coefficient = 1 /2^ 1 }) (only null) (int 1 ∷ null ∷ null ∷ []))
     (says (ended (refused 2))
     ∷ [])
 unfolding allLoop Shows spoken
-corner-27 = refl
+starts-the-sizes-27 = refl
 
-pub corner-28 :
+pub starts-the-sizes-28 :
     Shows (startLoop binary64 (record { n = 1; n1 = 0; n2 = 0; setY = false; limit = 1; outer = 1; limited = false; tolerance = int 1; epsilon = int 1; delta = int 1; akkt = int 1; penaltyFactor = 1 ·2^ 1; epsilonFactor = 1 /2^ 1; coefficient = 1 /2^ 1 }) (only null) (only (int 1)))
     (says (ended (refused 2))
     ∷ [])
 unfolding allLoop Shows spoken
-corner-28 = refl
+starts-the-sizes-28 = refl
 
-pub corner-29 :
+pub starts-the-sizes-29 :
     Shows (startLoop binary64 (record { n = 1; n1 = 0; n2 = 1; setY = false; limit = 1; outer = 1; limited = false; tolerance = int 1; epsilon = int 1; delta = int 1; akkt = int 1; penaltyFactor = 1 ·2^ 1; epsilonFactor = 1 /2^ 1; coefficient = 1 /2^ 1 }) (only null) [])
     (says (ended (refused 2))
     ∷ [])
 unfolding allLoop Shows spoken
-corner-29 = refl
+starts-the-sizes-29 = refl
 
-pub corner-30 :
+pub starts-the-sizes-30 :
     Shows (startLoop binary64 (record { n = 1; n1 = 0; n2 = 1; setY = true; limit = 1; outer = 1; limited = false; tolerance = int 1; epsilon = int 1; delta = int 1; akkt = int 1; penaltyFactor = 1 ·2^ 1; epsilonFactor = 1 /2^ 1; coefficient = 1 /2^ 1 }) (only null) (only (int 1)))
     (says (ended (refused 2))
     ∷ [])
 unfolding allLoop Shows spoken
-corner-30 = refl
+starts-the-sizes-30 = refl
 
-pub corner-31 :
+pub starts-the-sizes-31 :
     Shows (startLoop binary64 (record { n = 1; n1 = 0; n2 = 0; setY = true; limit = 1; outer = 1; limited = false; tolerance = int 1; epsilon = int 1; delta = int 1; akkt = int 1; penaltyFactor = 1 ·2^ 1; epsilonFactor = 1 /2^ 1; coefficient = 1 /2^ 1 }) (only null) [])
     (says (ended (refused 2))
     ∷ [])
 unfolding allLoop Shows spoken
-corner-31 = refl
+starts-the-sizes-31 = refl
 
-pub corner-32 :
+pub starts-the-sizes-32 :
     Shows (startLoop binary64 (record { n = 2; n1 = 1; n2 = 0; setY = false; limit = 0; outer = 0; limited = false; tolerance = null; epsilon = int 1; delta = int 1; akkt = int 1; penaltyFactor = 1 ·2^ 1; epsilonFactor = 1 /2^ 1; coefficient = 1 /2^ 1 }) (only null) (only (int 1)))
     (says (ended (refused 1))
     ∷ [])
 unfolding allLoop Shows spoken
-corner-32 = refl
+starts-the-sizes-32 = refl
 
-pub corner-33 :
+pub starts-the-sizes-33 :
     Shows (startLoop binary64 (record { n = 1; n1 = 1; n2 = 0; setY = false; limit = 0; outer = 0; limited = false; tolerance = null; epsilon = int 1; delta = int 1; akkt = int 1; penaltyFactor = 1 ·2^ 1; epsilonFactor = 1 /2^ 1; coefficient = 1 /2^ 1 }) (only null) (only (int 1)))
     (says (ended (refused 2))
     ∷ [])
 unfolding allLoop Shows spoken
-corner-33 = refl
+starts-the-sizes-33 = refl
 
-pub corner-34 :
+pub starts-the-sizes-34 :
     Shows (startLoop binary64 (record { n = 1; n1 = 1; n2 = 0; setY = false; limit = 0; outer = 1; limited = false; tolerance = null; epsilon = int 1; delta = int 1; akkt = int 1; penaltyFactor = 1 ·2^ 1; epsilonFactor = 1 /2^ 1; coefficient = 1 /2^ 1 }) (only null) (nan ∷ null ∷ []))
     (says (ended (refused 3))
     ∷ [])
 unfolding allLoop Shows spoken
-corner-34 = refl
+starts-the-sizes-34 = refl
 
-pub corner-35 :
+pub starts-the-sizes-35 :
     Shows (startLoop binary64 (record { n = 1; n1 = 1; n2 = 0; setY = false; limit = 1; outer = 0; limited = false; tolerance = int 1; epsilon = int 1; delta = int 1; akkt = int 1; penaltyFactor = 1 ·2^ 1; epsilonFactor = 1 /2^ 1; coefficient = 1 /2^ 1 }) (only null) (int 1 ∷ null ∷ []))
     (says (ended (refused 3))
     ∷ [])
 unfolding allLoop Shows spoken
-corner-35 = refl
+starts-the-sizes-35 = refl
 
-pub corner-36 :
+pub starts-the-sizes-36 :
     Shows (startLoop binary64 (record { n = 1; n1 = 1; n2 = 0; setY = false; limit = 1; outer = 1000; limited = false; tolerance = int 1; epsilon = int 1; delta = int 1; akkt = int 1; penaltyFactor = 1 ·2^ 1; epsilonFactor = 1 /2^ 1; coefficient = 1 /2^ 1 }) (only null) (int 1 ∷ null ∷ []))
     (says (asked (Asks.inner (int 1 ∷ null ∷ []) (Asks.Question.cost (only null))))
     ∷ [])
 unfolding allLoop Shows spoken
-corner-36 = refl
+starts-the-sizes-36 = refl
 
-pub corner-37 :
+pub starts-the-sizes-37 :
     Shows (startLoop binary64 (record { n = 1; n1 = 1; n2 = 0; setY = false; limit = 1; outer = 1001; limited = false; tolerance = int 1; epsilon = int 1; delta = int 1; akkt = int 1; penaltyFactor = 1 ·2^ 1; epsilonFactor = 1 /2^ 1; coefficient = 1 /2^ 1 }) (only null) (int 1 ∷ null ∷ []))
     (says (ended (refused 3))
     ∷ [])
 unfolding allLoop Shows spoken
-corner-37 = refl
+starts-the-sizes-37 = refl
 
-pub corner-38 :
+pub starts-the-sizes-38 :
     Shows (startLoop binary64 (record { n = 1; n1 = 1; n2 = 0; setY = false; limit = 10000; outer = 1; limited = false; tolerance = int 1; epsilon = int 1; delta = int 1; akkt = int 1; penaltyFactor = 1 ·2^ 1; epsilonFactor = 1 /2^ 1; coefficient = 1 /2^ 1 }) (only null) (int 1 ∷ null ∷ []))
     (says (asked (Asks.inner (int 1 ∷ null ∷ []) (Asks.Question.cost (only null))))
     ∷ [])
 unfolding allLoop Shows spoken
-corner-38 = refl
+starts-the-sizes-38 = refl
 
-pub corner-39 :
+pub starts-the-sizes-39 :
     Shows (startLoop binary64 (record { n = 1; n1 = 1; n2 = 0; setY = false; limit = 10001; outer = 1; limited = false; tolerance = int 1; epsilon = int 1; delta = int 1; akkt = int 1; penaltyFactor = 1 ·2^ 1; epsilonFactor = 1 /2^ 1; coefficient = 1 /2^ 1 }) (only null) (int 1 ∷ null ∷ []))
     (says (ended (refused 3))
     ∷ [])
 unfolding allLoop Shows spoken
-corner-39 = refl
+starts-the-sizes-39 = refl
 
-pub corner-40 :
+pub starts-the-sizes-40 :
     Shows (startLoop binary64 (record { n = 1; n1 = 1; n2 = 0; setY = false; limit = 1; outer = 1; limited = false; tolerance = nan; epsilon = int 1; delta = int 1; akkt = int 1; penaltyFactor = 1 ·2^ 1; epsilonFactor = 1 /2^ 1; coefficient = 1 /2^ 1 }) (only null) (nan ∷ null ∷ []))
     (says (ended (refused 4))
     ∷ [])
 unfolding allLoop Shows spoken
-corner-40 = refl
+starts-the-sizes-40 = refl
 
-pub corner-41 :
+pub starts-the-sizes-41 :
     Shows (startLoop binary64 (record { n = 1; n1 = 1; n2 = 0; setY = false; limit = 1; outer = 1; limited = false; tolerance = int 1; epsilon = null; delta = int 1; akkt = int 1; penaltyFactor = 1 ·2^ 1; epsilonFactor = 1 /2^ 1; coefficient = 1 /2^ 1 }) (only null) (int 1 ∷ null ∷ []))
     (says (ended (refused 4))
     ∷ [])
 unfolding allLoop Shows spoken
-corner-41 = refl
+starts-the-sizes-41 = refl
 
-pub corner-42 :
+pub starts-the-sizes-42 :
     Shows (startLoop binary64 (record { n = 1; n1 = 1; n2 = 0; setY = false; limit = 1; outer = 1; limited = false; tolerance = int 1; epsilon = int 1; delta = inf false; akkt = int 1; penaltyFactor = 1 ·2^ 1; epsilonFactor = 1 /2^ 1; coefficient = 1 /2^ 1 }) (only null) (int 1 ∷ null ∷ []))
     (says (ended (refused 4))
     ∷ [])
 unfolding allLoop Shows spoken
-corner-42 = refl
+starts-the-sizes-42 = refl
 
-pub corner-43 :
+pub starts-the-sizes-43 :
     Shows (startLoop binary64 (record { n = 1; n1 = 1; n2 = 0; setY = false; limit = 1; outer = 1; limited = false; tolerance = int 1; epsilon = int 1; delta = int 1; akkt = neg (int 1); penaltyFactor = 1 ·2^ 1; epsilonFactor = 1 /2^ 1; coefficient = 1 /2^ 1 }) (only null) (int 1 ∷ null ∷ []))
     (says (ended (refused 4))
     ∷ [])
 unfolding allLoop Shows spoken
-corner-43 = refl
+starts-the-sizes-43 = refl
 
-pub corner-44 :
+pub starts-the-sizes-44 :
     Shows (startLoop binary64 (record { n = 1; n1 = 1; n2 = 0; setY = false; limit = 1; outer = 1; limited = false; tolerance = int 1; epsilon = int 1; delta = int 1; akkt = int 1; penaltyFactor = int 1; epsilonFactor = 1 /2^ 1; coefficient = 1 /2^ 1 }) (only null) (int 1 ∷ null ∷ []))
     (says (asked (Asks.inner (int 1 ∷ null ∷ []) (Asks.Question.cost (only null))))
     ∷ [])
 unfolding allLoop Shows spoken
-corner-44 = refl
+starts-the-sizes-44 = refl
 
-pub corner-45 :
+pub starts-the-sizes-45 :
     Shows (startLoop binary64 (record { n = 1; n1 = 1; n2 = 0; setY = false; limit = 1; outer = 1; limited = false; tolerance = int 1; epsilon = int 1; delta = int 1; akkt = int 1; penaltyFactor = 9007199254740991 /2^ 53; epsilonFactor = 1 /2^ 1; coefficient = 1 /2^ 1 }) (only null) (int 1 ∷ null ∷ []))
     (says (ended (refused 4))
     ∷ [])
 unfolding allLoop Shows spoken
-corner-45 = refl
+starts-the-sizes-45 = refl
 
-pub corner-46 :
+pub starts-the-sizes-46 :
     Shows (startLoop binary64 (record { n = 1; n1 = 1; n2 = 0; setY = false; limit = 1; outer = 1; limited = false; tolerance = int 1; epsilon = int 1; delta = int 1; akkt = int 1; penaltyFactor = inf false; epsilonFactor = 1 /2^ 1; coefficient = 1 /2^ 1 }) (only null) (int 1 ∷ null ∷ []))
     (says (ended (refused 4))
     ∷ [])
 unfolding allLoop Shows spoken
-corner-46 = refl
+starts-the-sizes-46 = refl
 
-pub corner-47 :
+pub starts-the-sizes-47 :
     Shows (startLoop binary64 (record { n = 1; n1 = 1; n2 = 0; setY = false; limit = 1; outer = 1; limited = false; tolerance = int 1; epsilon = int 1; delta = int 1; akkt = int 1; penaltyFactor = nan; epsilonFactor = 1 /2^ 1; coefficient = 1 /2^ 1 }) (only null) (int 1 ∷ null ∷ []))
     (says (ended (refused 4))
     ∷ [])
 unfolding allLoop Shows spoken
-corner-47 = refl
+starts-the-sizes-47 = refl
 
-pub corner-48 :
+pub starts-the-sizes-48 :
     Shows (startLoop binary64 (record { n = 1; n1 = 1; n2 = 0; setY = false; limit = 1; outer = 1; limited = false; tolerance = int 1; epsilon = int 1; delta = int 1; akkt = int 1; penaltyFactor = 1 ·2^ 1; epsilonFactor = null; coefficient = 1 /2^ 1 }) (only null) (int 1 ∷ null ∷ []))
     (says (ended (refused 4))
     ∷ [])
 unfolding allLoop Shows spoken
-corner-48 = refl
+starts-the-sizes-48 = refl
 
-pub corner-49 :
+pub starts-the-sizes-49 :
     Shows (startLoop binary64 (record { n = 1; n1 = 1; n2 = 0; setY = false; limit = 1; outer = 1; limited = false; tolerance = int 1; epsilon = int 1; delta = int 1; akkt = int 1; penaltyFactor = 1 ·2^ 1; epsilonFactor = int 1; coefficient = 1 /2^ 1 }) (only null) (int 1 ∷ null ∷ []))
     (says (ended (refused 4))
     ∷ [])
 unfolding allLoop Shows spoken
-corner-49 = refl
+starts-the-sizes-49 = refl
 
-pub corner-50 :
+pub starts-the-sizes-50 :
     Shows (startLoop binary64 (record { n = 1; n1 = 1; n2 = 0; setY = false; limit = 1; outer = 1; limited = false; tolerance = int 1; epsilon = int 1; delta = int 1; akkt = int 1; penaltyFactor = 1 ·2^ 1; epsilonFactor = 1 /2^ 1074; coefficient = 1 /2^ 1 }) (only null) (int 1 ∷ null ∷ []))
     (says (asked (Asks.inner (int 1 ∷ null ∷ []) (Asks.Question.cost (only null))))
     ∷ [])
 unfolding allLoop Shows spoken
-corner-50 = refl
+starts-the-sizes-50 = refl
 
-pub corner-51 :
+pub starts-the-sizes-51 :
     Shows (startLoop binary64 (record { n = 1; n1 = 1; n2 = 0; setY = false; limit = 1; outer = 1; limited = false; tolerance = int 1; epsilon = int 1; delta = int 1; akkt = int 1; penaltyFactor = 1 ·2^ 1; epsilonFactor = 9007199254740991 /2^ 53; coefficient = 1 /2^ 1 }) (only null) (int 1 ∷ null ∷ []))
     (says (asked (Asks.inner (int 1 ∷ null ∷ []) (Asks.Question.cost (only null))))
     ∷ [])
 unfolding allLoop Shows spoken
-corner-51 = refl
+starts-the-sizes-51 = refl
 
-pub corner-52 :
+pub starts-the-sizes-52 :
     Shows (startLoop binary64 (record { n = 1; n1 = 1; n2 = 0; setY = false; limit = 1; outer = 1; limited = false; tolerance = int 1; epsilon = int 1; delta = int 1; akkt = int 1; penaltyFactor = 1 ·2^ 1; epsilonFactor = nan; coefficient = 1 /2^ 1 }) (only null) (int 1 ∷ null ∷ []))
     (says (ended (refused 4))
     ∷ [])
 unfolding allLoop Shows spoken
-corner-52 = refl
+starts-the-sizes-52 = refl
 
-pub corner-53 :
+pub starts-the-sizes-53 :
     Shows (startLoop binary64 (record { n = 1; n1 = 1; n2 = 0; setY = false; limit = 1; outer = 1; limited = false; tolerance = int 1; epsilon = int 1; delta = int 1; akkt = int 1; penaltyFactor = 1 ·2^ 1; epsilonFactor = 1 /2^ 1; coefficient = null }) (only null) (int 1 ∷ null ∷ []))
     (says (ended (refused 4))
     ∷ [])
 unfolding allLoop Shows spoken
-corner-53 = refl
+starts-the-sizes-53 = refl
 
-pub corner-54 :
+pub starts-the-sizes-54 :
     Shows (startLoop binary64 (record { n = 1; n1 = 1; n2 = 0; setY = false; limit = 1; outer = 1; limited = false; tolerance = int 1; epsilon = int 1; delta = int 1; akkt = int 1; penaltyFactor = 1 ·2^ 1; epsilonFactor = 1 /2^ 1; coefficient = int 1 }) (only null) (int 1 ∷ null ∷ []))
     (says (ended (refused 4))
     ∷ [])
 unfolding allLoop Shows spoken
-corner-54 = refl
+starts-the-sizes-54 = refl
 
-pub corner-55 :
+pub starts-the-sizes-55 :
     Shows (startLoop binary64 (record { n = 1; n1 = 1; n2 = 0; setY = false; limit = 1; outer = 1; limited = false; tolerance = int 1; epsilon = int 1; delta = int 1; akkt = int 1; penaltyFactor = 1 ·2^ 1; epsilonFactor = 1 /2^ 1; coefficient = neg (1 /2^ 1) }) (only null) (int 1 ∷ null ∷ []))
     (says (ended (refused 4))
     ∷ [])
 unfolding allLoop Shows spoken
-corner-55 = refl
+starts-the-sizes-55 = refl
 
-pub corner-56 :
+pub starts-the-sizes-56 :
     Shows (startLoop binary64 (record { n = 1; n1 = 1; n2 = 0; setY = false; limit = 1; outer = 1; limited = false; tolerance = int 1; epsilon = int 1; delta = int 1; akkt = int 1; penaltyFactor = 1 ·2^ 1; epsilonFactor = 1 /2^ 1; coefficient = 1 /2^ 1 }) (only null) (null ∷ null ∷ []))
     (says (ended (refused 5))
     ∷ [])
 unfolding allLoop Shows spoken
-corner-56 = refl
+starts-the-sizes-56 = refl
 
-pub corner-57 :
+pub starts-the-sizes-57 :
     Shows (startLoop binary64 (record { n = 1; n1 = 1; n2 = 0; setY = false; limit = 1; outer = 1; limited = false; tolerance = int 1; epsilon = int 1; delta = int 1; akkt = int 1; penaltyFactor = 1 ·2^ 1; epsilonFactor = 1 /2^ 1; coefficient = 1 /2^ 1 }) (only null) (neg (int 1) ∷ null ∷ []))
     (says (ended (refused 5))
     ∷ [])
 unfolding allLoop Shows spoken
-corner-57 = refl
+starts-the-sizes-57 = refl
 
-pub corner-58 :
+pub starts-the-sizes-58 :
     Shows (startLoop binary64 (record { n = 1; n1 = 1; n2 = 0; setY = false; limit = 1; outer = 1; limited = false; tolerance = int 1; epsilon = int 1; delta = int 1; akkt = int 1; penaltyFactor = 1 ·2^ 1; epsilonFactor = 1 /2^ 1; coefficient = 1 /2^ 1 }) (only null) (nan ∷ null ∷ []))
     (says (ended (refused 5))
     ∷ [])
 unfolding allLoop Shows spoken
-corner-58 = refl
+starts-the-sizes-58 = refl
 
-pub corner-59 :
+pub starts-the-sizes-59 :
     Shows (startLoop binary64 (record { n = 1; n1 = 1; n2 = 0; setY = false; limit = 1; outer = 1; limited = false; tolerance = int 1; epsilon = int 1; delta = int 1; akkt = int 1; penaltyFactor = 1 ·2^ 1; epsilonFactor = 1 /2^ 1; coefficient = 1 /2^ 1 }) (only null) (inf false ∷ null ∷ []))
     (says (ended (refused 5))
     ∷ [])
 unfolding allLoop Shows spoken
-corner-59 = refl
+starts-the-sizes-59 = refl
 
-pub corner-60 :
+pub starts-the-sizes-60 :
     Shows (startLoop binary64 (record { n = 1; n1 = 1; n2 = 0; setY = false; limit = 1; outer = 1; limited = false; tolerance = int 1; epsilon = int 1; delta = int 1; akkt = int 1; penaltyFactor = 1 ·2^ 1; epsilonFactor = 1 /2^ 1; coefficient = 1 /2^ 1 }) (only null) (int 1 ∷ nan ∷ []))
     (says (ended (refused 5))
     ∷ [])
 unfolding allLoop Shows spoken
-corner-60 = refl
+starts-the-sizes-60 = refl
 
-pub corner-61 :
+pub starts-the-sizes-61 :
     Shows (startLoop binary64 (record { n = 1; n1 = 1; n2 = 0; setY = false; limit = 1; outer = 1; limited = false; tolerance = int 1; epsilon = int 1; delta = int 1; akkt = int 1; penaltyFactor = 1 ·2^ 1; epsilonFactor = 1 /2^ 1; coefficient = 1 /2^ 1 }) (only null) (int 1 ∷ inf true ∷ []))
     (says (ended (refused 5))
     ∷ [])
 unfolding allLoop Shows spoken
-corner-61 = refl
+starts-the-sizes-61 = refl
 
-pub corner-62 :
+pub starts-the-sizes-62 :
     Shows (startLoop binary64 (record { n = 1; n1 = 1; n2 = 0; setY = false; limit = 1; outer = 1; limited = false; tolerance = int 1; epsilon = int 1; delta = int 1; akkt = int 1; penaltyFactor = 1 ·2^ 1; epsilonFactor = 1 /2^ 1; coefficient = 1 /2^ 1 }) (only null) (1 /2^ 1074 ∷ null ∷ []))
     (says (asked (Asks.inner (1 /2^ 1074 ∷ null ∷ []) (Asks.Question.cost (only null))))
     ∷ [])
 unfolding allLoop Shows spoken
-corner-62 = refl
+starts-the-sizes-62 = refl
 
-pub corner-63 :
+pub starts-the-sizes-63 :
     Shows (startLoop binary64 (record { n = 1; n1 = 0; n2 = 1; setY = false; limit = 1; outer = 1; limited = false; tolerance = int 1; epsilon = int 1; delta = int 1; akkt = int 1; penaltyFactor = 1 ·2^ 1; epsilonFactor = 1 /2^ 1; coefficient = 1 /2^ 1 }) (only null) (only (inf false)))
     (says (ended (refused 5))
     ∷ [])
 unfolding allLoop Shows spoken
-corner-63 = refl
+starts-the-sizes-63 = refl
 
-pub corner-64 :
+pub starts-the-sizes-64 :
     Shows (startLoop binary64 (record { n = 1; n1 = 1; n2 = 0; setY = false; limit = 1; outer = 1; limited = false; tolerance = int 1; epsilon = int 1; delta = int 1; akkt = 1 /2^ 1; penaltyFactor = 1 ·2^ 1; epsilonFactor = 1 /2^ 1; coefficient = 1 /2^ 1 }) (only null) (int 1 ∷ null ∷ []))
     (says (asked (Asks.inner (int 1 ∷ null ∷ []) (Asks.Question.cost (only null))))
     ∷ [])
 unfolding allLoop Shows spoken
-corner-64 = refl
+starts-the-sizes-64 = refl
 
 -- ---- the previous gradient: each solve of the loop starts it at zeros (reading 1)
 
-pub corner-129 :
+pub the-previous-gradient-each-solve-of-the-loop-starts-it-at-zeros-reading-1-1 :
     Shows (startLoop binary64 (record { n = 1; n1 = 0; n2 = 0; setY = false; limit = 1; outer = 2; limited = false; tolerance = int 1; epsilon = 1 /2^ 1; delta = int 1; akkt = int 1; penaltyFactor = 1 ·2^ 1; epsilonFactor = 1 /2^ 1; coefficient = 1 /2^ 1 }) (only null) [])
     (asked (Asks.inner [] (Asks.Question.cost (only null))) ▷ number null
     ∷ asked (Asks.inner [] (Asks.Question.gradient (only null))) ▷ vector (only (int 1))
@@ -336,11 +336,11 @@ pub corner-129 :
     ∷ says (ended (handed (record { plan = (only null); multipliers = []; penalty = null; status = notConvergedIterations; outer = 2; inner = 2; norm = null; deltaY = null; f2 = null; cost = int 7 })))
     ∷ [])
 unfolding allLoop Shows spoken
-corner-129 = refl
+the-previous-gradient-each-solve-of-the-loop-starts-it-at-zeros-reading-1-1 = refl
 
 -- ---- K = 1 with n1 = 1 is never Converged
 
-pub corner-130 :
+pub K-1-with-n1-1-is-never-Converged-1 :
     Shows (startLoop binary64 (record { n = 1; n1 = 1; n2 = 0; setY = false; limit = 1; outer = 1; limited = false; tolerance = int 1; epsilon = int 1; delta = int 1; akkt = int 1; penaltyFactor = 1 ·2^ 1; epsilonFactor = 1 /2^ 1; coefficient = 1 /2^ 1 }) (only null) (int 1 ∷ 1 /2^ 1 ∷ []))
     (asked (Asks.inner (int 1 ∷ 1 /2^ 1 ∷ []) (Asks.Question.cost (only null))) ▷ number null
     ∷ asked (Asks.inner (int 1 ∷ 1 /2^ 1 ∷ []) (Asks.Question.gradient (only null))) ▷ vector (only null)
@@ -353,11 +353,11 @@ pub corner-130 :
     ∷ says (ended (handed (record { plan = (only null); multipliers = (only (1 /2^ 1)); penalty = int 1; status = notConvergedIterations; outer = 1; inner = 0; norm = 4951760157141521 /2^ 92; deltaY = null; f2 = null; cost = null })))
     ∷ [])
 unfolding allLoop Shows spoken
-corner-130 = refl
+K-1-with-n1-1-is-never-Converged-1 = refl
 
 -- ---- the second iteration passes: the last COST carries (0, y), the multipliers handed back are y_plus
 
-pub corner-131 :
+pub the-second-iteration-passes-the-last-COST-carries-0-1 :
     Shows (startLoop binary64 (record { n = 1; n1 = 1; n2 = 0; setY = false; limit = 1; outer = 5; limited = false; tolerance = int 1; epsilon = int 1; delta = int 1; akkt = int 1; penaltyFactor = 1 ·2^ 1; epsilonFactor = 1 /2^ 1; coefficient = 1 /2^ 1 }) (only null) (int 1 ∷ 1 /2^ 1 ∷ []))
     (asked (Asks.inner (int 1 ∷ 1 /2^ 1 ∷ []) (Asks.Question.cost (only null))) ▷ number null
     ∷ asked (Asks.inner (int 1 ∷ 1 /2^ 1 ∷ []) (Asks.Question.gradient (only null))) ▷ vector (only null)
@@ -377,11 +377,11 @@ pub corner-131 :
     ∷ says (ended (handed (record { plan = (only null); multipliers = (only (5 /2^ 2)); penalty = int 1; status = converged; outer = 2; inner = 0; norm = 4951760157141521 /2^ 92; deltaY = 1 /2^ 1; f2 = null; cost = int 3 })))
     ∷ [])
 unfolding allLoop Shows spoken
-corner-131 = refl
+the-second-iteration-passes-the-last-COST-carries-0-1 = refl
 
 -- ---- xi of one place with n2 = 1; F2 equal to the limit passes, the next float does not
 
-pub corner-132 :
+pub xi-of-one-place-with-n2-1-1 :
     Shows (startLoop binary64 (record { n = 1; n1 = 0; n2 = 1; setY = false; limit = 1; outer = 5; limited = false; tolerance = int 1; epsilon = int 1; delta = int 1; akkt = int 1; penaltyFactor = 1 ·2^ 1; epsilonFactor = 1 /2^ 1; coefficient = 1 /2^ 1 }) (only null) (only (1 ·2^ 2)))
     (asked (Asks.inner (only (1 ·2^ 2)) (Asks.Question.cost (only null))) ▷ number null
     ∷ asked (Asks.inner (only (1 ·2^ 2)) (Asks.Question.gradient (only null))) ▷ vector (only null)
@@ -393,9 +393,9 @@ pub corner-132 :
     ∷ says (ended (handed (record { plan = (only null); multipliers = []; penalty = 1 ·2^ 2; status = converged; outer = 1; inner = 0; norm = 4951760157141521 /2^ 92; deltaY = null; f2 = 4503599627370497 /2^ 52; cost = int 3 })))
     ∷ [])
 unfolding allLoop Shows spoken
-corner-132 = refl
+xi-of-one-place-with-n2-1-1 = refl
 
-pub corner-133 :
+pub xi-of-one-place-with-n2-1-2 :
     Shows (startLoop binary64 (record { n = 1; n1 = 0; n2 = 1; setY = false; limit = 1; outer = 2; limited = false; tolerance = int 1; epsilon = int 1; delta = int 1; akkt = int 1; penaltyFactor = 1 ·2^ 1; epsilonFactor = 1 /2^ 1; coefficient = 1 /2^ 1 }) (only null) (only (1 ·2^ 2)))
     (asked (Asks.inner (only (1 ·2^ 2)) (Asks.Question.cost (only null))) ▷ number null
     ∷ asked (Asks.inner (only (1 ·2^ 2)) (Asks.Question.gradient (only null))) ▷ vector (only null)
@@ -413,11 +413,11 @@ pub corner-133 :
     ∷ says (ended (handed (record { plan = (only null); multipliers = []; penalty = 1 ·2^ 3; status = notConvergedIterations; outer = 2; inner = 0; norm = 4951760157141521 /2^ 92; deltaY = null; f2 = 2251799813685249 /2^ 51; cost = int 3 })))
     ∷ [])
 unfolding allLoop Shows spoken
-corner-133 = refl
+xi-of-one-place-with-n2-1-2 = refl
 
 -- ---- |y_plus - y| equal to c × δ + 2^-52 passes, the next float does not
 
-pub corner-134 :
+pub y-plus-y-equal-to-c-2-52-passes-1 :
     Shows (startLoop binary64 (record { n = 1; n1 = 1; n2 = 0; setY = false; limit = 1; outer = 3; limited = false; tolerance = int 1; epsilon = int 1; delta = int 1; akkt = int 1; penaltyFactor = 1 ·2^ 1; epsilonFactor = 1 /2^ 1; coefficient = 1 /2^ 1 }) (only null) (int 1 ∷ null ∷ []))
     (asked (Asks.inner (int 1 ∷ null ∷ []) (Asks.Question.cost (only null))) ▷ number null
     ∷ asked (Asks.inner (int 1 ∷ null ∷ []) (Asks.Question.gradient (only null))) ▷ vector (only null)
@@ -437,9 +437,9 @@ pub corner-134 :
     ∷ says (ended (handed (record { plan = (only null); multipliers = (only (4503599627370497 /2^ 52)); penalty = int 1; status = converged; outer = 2; inner = 0; norm = 4951760157141521 /2^ 92; deltaY = 4503599627370497 /2^ 52; f2 = null; cost = int 3 })))
     ∷ [])
 unfolding allLoop Shows spoken
-corner-134 = refl
+y-plus-y-equal-to-c-2-52-passes-1 = refl
 
-pub corner-135 :
+pub y-plus-y-equal-to-c-2-52-passes-2 :
     Shows (startLoop binary64 (record { n = 1; n1 = 1; n2 = 0; setY = false; limit = 1; outer = 2; limited = false; tolerance = int 1; epsilon = int 1; delta = int 1; akkt = int 1; penaltyFactor = 1 ·2^ 1; epsilonFactor = 1 /2^ 1; coefficient = 1 /2^ 1 }) (only null) (int 1 ∷ null ∷ []))
     (asked (Asks.inner (int 1 ∷ null ∷ []) (Asks.Question.cost (only null))) ▷ number null
     ∷ asked (Asks.inner (int 1 ∷ null ∷ []) (Asks.Question.gradient (only null))) ▷ vector (only null)
@@ -459,11 +459,11 @@ pub corner-135 :
     ∷ says (ended (handed (record { plan = (only null); multipliers = (only (2251799813685249 /2^ 51)); penalty = 1 ·2^ 1; status = notConvergedIterations; outer = 2; inner = 0; norm = 4951760157141521 /2^ 92; deltaY = 2251799813685249 /2^ 51; f2 = null; cost = int 3 })))
     ∷ [])
 unfolding allLoop Shows spoken
-corner-135 = refl
+y-plus-y-equal-to-c-2-52-passes-2 = refl
 
 -- ---- the inner AKKT tolerance against ε + 2^-52
 
-pub corner-136 :
+pub the-inner-AKKT-tolerance-against-2-52-1 :
     Shows (startLoop binary64 (record { n = 1; n1 = 0; n2 = 0; setY = false; limit = 1; outer = 2; limited = false; tolerance = int 1; epsilon = int 1; delta = int 1; akkt = 4503599627370497 /2^ 52; penaltyFactor = 1 ·2^ 1; epsilonFactor = 1 /2^ 1; coefficient = 1 /2^ 1 }) (only null) [])
     (asked (Asks.inner [] (Asks.Question.cost (only null))) ▷ number null
     ∷ asked (Asks.inner [] (Asks.Question.gradient (only null))) ▷ vector (only null)
@@ -474,9 +474,9 @@ pub corner-136 :
     ∷ says (ended (handed (record { plan = (only null); multipliers = []; penalty = null; status = converged; outer = 1; inner = 0; norm = 4951760157141521 /2^ 92; deltaY = null; f2 = null; cost = int 3 })))
     ∷ [])
 unfolding allLoop Shows spoken
-corner-136 = refl
+the-inner-AKKT-tolerance-against-2-52-1 = refl
 
-pub corner-137 :
+pub the-inner-AKKT-tolerance-against-2-52-2 :
     Shows (startLoop binary64 (record { n = 1; n1 = 0; n2 = 0; setY = false; limit = 1; outer = 2; limited = false; tolerance = int 1; epsilon = int 1; delta = int 1; akkt = 2251799813685249 /2^ 51; penaltyFactor = 1 ·2^ 1; epsilonFactor = 1 /2^ 1; coefficient = 1 /2^ 1 }) (only null) [])
     (asked (Asks.inner [] (Asks.Question.cost (only null))) ▷ number null
     ∷ asked (Asks.inner [] (Asks.Question.gradient (only null))) ▷ vector (only null)
@@ -492,11 +492,11 @@ pub corner-137 :
     ∷ says (ended (handed (record { plan = (only null); multipliers = []; penalty = null; status = converged; outer = 2; inner = 0; norm = 4951760157141521 /2^ 92; deltaY = null; f2 = null; cost = int 3 })))
     ∷ [])
 unfolding allLoop Shows spoken
-corner-137 = refl
+the-inner-AKKT-tolerance-against-2-52-2 = refl
 
 -- ---- c: not multiplied at the first iteration, then where the decrease is not enough, and kept where it is
 
-pub corner-138 :
+pub c-not-multiplied-at-the-first-iteration-1 :
     Shows (startLoop binary64 (record { n = 1; n1 = 0; n2 = 1; setY = false; limit = 1; outer = 4; limited = false; tolerance = int 1; epsilon = int 1; delta = int 1; akkt = int 1; penaltyFactor = int 3; epsilonFactor = 1 /2^ 1; coefficient = 1 /2^ 1 }) (only null) (only (int 1)))
     (asked (Asks.inner (only (int 1)) (Asks.Question.cost (only null))) ▷ number null
     ∷ asked (Asks.inner (only (int 1)) (Asks.Question.gradient (only null))) ▷ vector (only null)
@@ -526,11 +526,11 @@ pub corner-138 :
     ∷ says (ended (handed (record { plan = (only null); multipliers = []; penalty = int 3; status = notConvergedIterations; outer = 4; inner = 0; norm = 4951760157141521 /2^ 92; deltaY = null; f2 = 1 ·2^ 1; cost = int 5 })))
     ∷ [])
 unfolding allLoop Shows spoken
-corner-138 = refl
+c-not-multiplied-at-the-first-iteration-1 = refl
 
 -- ---- c is kept up to the coefficient × the former + 2^-52, for F2 and for y, and where both are there only if both are
 
-pub corner-139 :
+pub c-is-kept-up-to-the-coefficient-the-former-2-52-1 :
     Shows (startLoop binary64 (record { n = 1; n1 = 0; n2 = 1; setY = false; limit = 1; outer = 3; limited = false; tolerance = int 1; epsilon = int 1; delta = 1 /2^ 2; akkt = int 1; penaltyFactor = int 3; epsilonFactor = 1 /2^ 1; coefficient = 1 /2^ 1 }) (only null) (only (int 1)))
     (asked (Asks.inner (only (int 1)) (Asks.Question.cost (only null))) ▷ number null
     ∷ asked (Asks.inner (only (int 1)) (Asks.Question.gradient (only null))) ▷ vector (only null)
@@ -554,9 +554,9 @@ pub corner-139 :
     ∷ says (ended (handed (record { plan = (only null); multipliers = []; penalty = int 3; status = notConvergedIterations; outer = 3; inner = 0; norm = 4951760157141521 /2^ 92; deltaY = null; f2 = 4503599627370503 /2^ 54; cost = int 5 })))
     ∷ [])
 unfolding allLoop Shows spoken
-corner-139 = refl
+c-is-kept-up-to-the-coefficient-the-former-2-52-1 = refl
 
-pub corner-140 :
+pub c-is-kept-up-to-the-coefficient-the-former-2-52-2 :
     Shows (startLoop binary64 (record { n = 1; n1 = 1; n2 = 0; setY = false; limit = 1; outer = 3; limited = false; tolerance = int 1; epsilon = int 1; delta = 1 /2^ 4; akkt = int 1; penaltyFactor = int 3; epsilonFactor = 1 /2^ 1; coefficient = 1 /2^ 1 }) (only null) (int 1 ∷ null ∷ []))
     (asked (Asks.inner (int 1 ∷ null ∷ []) (Asks.Question.cost (only null))) ▷ number null
     ∷ asked (Asks.inner (int 1 ∷ null ∷ []) (Asks.Question.gradient (only null))) ▷ vector (only null)
@@ -583,9 +583,9 @@ pub corner-140 :
     ∷ says (ended (handed (record { plan = (only null); multipliers = (only (1 ·2^ 1)); penalty = int 3; status = notConvergedIterations; outer = 3; inner = 0; norm = 4951760157141521 /2^ 92; deltaY = 2251799813685247 /2^ 52; f2 = null; cost = int 5 })))
     ∷ [])
 unfolding allLoop Shows spoken
-corner-140 = refl
+c-is-kept-up-to-the-coefficient-the-former-2-52-2 = refl
 
-pub corner-141 :
+pub c-is-kept-up-to-the-coefficient-the-former-2-52-3 :
     Shows (startLoop binary64 (record { n = 1; n1 = 1; n2 = 1; setY = false; limit = 1; outer = 3; limited = false; tolerance = int 1; epsilon = int 1; delta = 1 /2^ 4; akkt = int 1; penaltyFactor = int 3; epsilonFactor = 1 /2^ 1; coefficient = 1 /2^ 1 }) (only null) (int 1 ∷ null ∷ []))
     (asked (Asks.inner (int 1 ∷ null ∷ []) (Asks.Question.cost (only null))) ▷ number null
     ∷ asked (Asks.inner (int 1 ∷ null ∷ []) (Asks.Question.gradient (only null))) ▷ vector (only null)
@@ -615,11 +615,11 @@ pub corner-141 :
     ∷ says (ended (handed (record { plan = (only null); multipliers = (only (7 /2^ 2)); penalty = int 3; status = notConvergedIterations; outer = 3; inner = 0; norm = 4951760157141521 /2^ 92; deltaY = 1 /2^ 2; f2 = 1 /2^ 1; cost = int 5 })))
     ∷ [])
 unfolding allLoop Shows spoken
-corner-141 = refl
+c-is-kept-up-to-the-coefficient-the-former-2-52-3 = refl
 
 -- ---- c grows past the largest float, and y_plus - y becomes NaN: 18
 
-pub corner-142 :
+pub c-grows-past-the-largest-float-1 :
     Shows (startLoop binary64 (record { n = 1; n1 = 1; n2 = 0; setY = false; limit = 1; outer = 4; limited = false; tolerance = int 1; epsilon = int 1; delta = int 1; akkt = int 1; penaltyFactor = 1681218273811815 ·2^ 946; epsilonFactor = 1 /2^ 1; coefficient = 1 /2^ 1 }) (only null) (int 1 ∷ null ∷ []))
     (asked (Asks.inner (int 1 ∷ null ∷ []) (Asks.Question.cost (only null))) ▷ number null
     ∷ asked (Asks.inner (int 1 ∷ null ∷ []) (Asks.Question.gradient (only null))) ▷ vector (only null)
@@ -654,11 +654,11 @@ pub corner-142 :
     ∷ says (turned 6)
     ∷ [])
 unfolding allLoop Shows spoken
-corner-142 = refl
+c-grows-past-the-largest-float-1 = refl
 
 -- ---- 18: the norm of F2 is NaN; infinite is no refusal; an earlier NaN is none either
 
-pub corner-143 :
+pub at-18-the-norm-of-F2-is-NaN-1 :
     Shows (startLoop binary64 (record { n = 1; n1 = 0; n2 = 1; setY = false; limit = 1; outer = 1; limited = false; tolerance = int 1; epsilon = int 1; delta = int 1; akkt = int 1; penaltyFactor = 1 ·2^ 1; epsilonFactor = 1 /2^ 1; coefficient = 1 /2^ 1 }) (only (1 /2^ 2)) (only (int 1)))
     (asked (Asks.inner (only (int 1)) (Asks.Question.cost (only (1 /2^ 2)))) ▷ number null
     ∷ asked (Asks.inner (only (int 1)) (Asks.Question.gradient (only (1 /2^ 2)))) ▷ vector (only null)
@@ -671,9 +671,9 @@ pub corner-143 :
     ∷ says (turned 6)
     ∷ [])
 unfolding allLoop Shows spoken
-corner-143 = refl
+at-18-the-norm-of-F2-is-NaN-1 = refl
 
-pub corner-144 :
+pub at-18-the-norm-of-F2-is-NaN-2 :
     Shows (startLoop binary64 (record { n = 1; n1 = 0; n2 = 1; setY = false; limit = 1; outer = 1; limited = false; tolerance = int 1; epsilon = int 1; delta = int 1; akkt = int 1; penaltyFactor = 1 ·2^ 1; epsilonFactor = 1 /2^ 1; coefficient = 1 /2^ 1 }) (only (1 /2^ 2)) (only (int 1)))
     (asked (Asks.inner (only (int 1)) (Asks.Question.cost (only (1 /2^ 2)))) ▷ number null
     ∷ asked (Asks.inner (only (int 1)) (Asks.Question.gradient (only (1 /2^ 2)))) ▷ vector (only null)
@@ -685,9 +685,9 @@ pub corner-144 :
     ∷ says (ended (handed (record { plan = (only null); multipliers = []; penalty = int 1; status = notConvergedIterations; outer = 1; inner = 0; norm = 4503604130970123 /2^ 54; deltaY = null; f2 = inf false; cost = int 5 })))
     ∷ [])
 unfolding allLoop Shows spoken
-corner-144 = refl
+at-18-the-norm-of-F2-is-NaN-2 = refl
 
-pub corner-145 :
+pub at-18-the-norm-of-F2-is-NaN-3 :
     Shows (startLoop binary64 (record { n = 1; n1 = 0; n2 = 1; setY = false; limit = 1; outer = 2; limited = false; tolerance = int 1; epsilon = int 1; delta = int 1; akkt = int 1; penaltyFactor = 1 ·2^ 1; epsilonFactor = 1 /2^ 1; coefficient = 1 /2^ 1 }) (only (1 /2^ 2)) (only (int 1)))
     (asked (Asks.inner (only (int 1)) (Asks.Question.cost (only (1 /2^ 2)))) ▷ number null
     ∷ asked (Asks.inner (only (int 1)) (Asks.Question.gradient (only (1 /2^ 2)))) ▷ vector (only null)
@@ -705,9 +705,9 @@ pub corner-145 :
     ∷ says (ended (handed (record { plan = (only null); multipliers = []; penalty = int 1; status = converged; outer = 2; inner = 0; norm = 4951760157141521 /2^ 92; deltaY = null; f2 = null; cost = nan })))
     ∷ [])
 unfolding allLoop Shows spoken
-corner-145 = refl
+at-18-the-norm-of-F2-is-NaN-3 = refl
 
-pub corner-146 :
+pub at-18-the-norm-of-F2-is-NaN-4 :
     Shows (startLoop binary64 (record { n = 1; n1 = 1; n2 = 1; setY = false; limit = 1; outer = 1; limited = false; tolerance = int 1; epsilon = int 1; delta = int 1; akkt = int 1; penaltyFactor = 1 ·2^ 1; epsilonFactor = 1 /2^ 1; coefficient = 1 /2^ 1 }) (only (1 /2^ 2)) (int 1 ∷ null ∷ []))
     (asked (Asks.inner (int 1 ∷ null ∷ []) (Asks.Question.cost (only (1 /2^ 2)))) ▷ number null
     ∷ asked (Asks.inner (int 1 ∷ null ∷ []) (Asks.Question.gradient (only (1 /2^ 2)))) ▷ vector (only null)
@@ -721,11 +721,24 @@ pub corner-146 :
     ∷ says (ended (failed 9))
     ∷ [])
 unfolding allLoop Shows spoken
-corner-146 = refl
+at-18-the-norm-of-F2-is-NaN-4 = refl
+
+-- ---- 17: a no from the first TIME; no COST follows
+
+pub at-17-a-no-from-the-first-TIME-1 :
+    Shows (startLoop binary64 (record { n = 1; n1 = 1; n2 = 1; setY = true; limit = 1; outer = 3; limited = true; tolerance = int 1; epsilon = int 1; delta = int 1; akkt = int 1; penaltyFactor = 1 ·2^ 1; epsilonFactor = 1 /2^ 1; coefficient = 1 /2^ 1 }) (only (1 /2^ 2)) (int 1 ∷ null ∷ []))
+    (asked Asks.LoopQuestion.time ▷ failure 1
+    ∷ turned 7 ▷ number (int 1)
+    ∷ turned 7 ▷ nay
+    ∷ ended (refused 17) ▷ number null
+    ∷ says (turned 6)
+    ∷ [])
+unfolding allLoop Shows spoken
+at-17-a-no-from-the-first-TIME-1 = refl
 
 -- ---- a no from TIME before the second iteration: out of time, one iteration
 
-pub corner-147 :
+pub a-no-from-TIME-before-the-second-iteration-out-of-time-1 :
     Shows (startLoop binary64 (record { n = 1; n1 = 0; n2 = 1; setY = false; limit = 1; outer = 3; limited = true; tolerance = int 1; epsilon = int 1; delta = int 1; akkt = int 1; penaltyFactor = 1 ·2^ 1; epsilonFactor = 1 /2^ 1; coefficient = 1 /2^ 1 }) (only (1 /2^ 2)) (only (int 1)))
     (asked Asks.LoopQuestion.time ▷ yea
     ∷ asked (Asks.inner (only (int 1)) (Asks.Question.cost (only (1 /2^ 2)))) ▷ number null
@@ -739,11 +752,11 @@ pub corner-147 :
     ∷ says (ended (handed (record { plan = (only null); multipliers = []; penalty = int 1; status = notConvergedOutOfTime; outer = 1; inner = 0; norm = 4503604130970123 /2^ 54; deltaY = null; f2 = 1 ·2^ 3; cost = int 5 })))
     ∷ [])
 unfolding allLoop Shows spoken
-corner-147 = refl
+a-no-from-TIME-before-the-second-iteration-out-of-time-1 = refl
 
 -- ---- a solve out of time: its iteration is finished, and the loop ends
 
-pub corner-148 :
+pub a-solve-out-of-time-its-iteration-is-finished-1 :
     Shows (startLoop binary64 (record { n = 1; n1 = 1; n2 = 1; setY = true; limit = 3; outer = 3; limited = true; tolerance = int 1; epsilon = int 1; delta = int 1; akkt = int 1; penaltyFactor = 1 ·2^ 1; epsilonFactor = 1 /2^ 1; coefficient = 1 /2^ 1 }) (only (1 /2^ 2)) (int 1 ∷ null ∷ []))
     (asked Asks.LoopQuestion.time ▷ yea
     ∷ asked (Asks.LoopQuestion.projectY (only null)) ▷ vector (only (1 /2^ 1))
@@ -765,9 +778,9 @@ pub corner-148 :
     ∷ says (ended (handed (record { plan = (only (17 /2^ 2)); multipliers = (only (17 /2^ 1)); penalty = int 1; status = notConvergedOutOfTime; outer = 1; inner = 1; norm = 1 /2^ 2; deltaY = 1 ·2^ 3; f2 = 1 ·2^ 3; cost = int 5 })))
     ∷ [])
 unfolding allLoop Shows spoken
-corner-148 = refl
+a-solve-out-of-time-its-iteration-is-finished-1 = refl
 
-pub corner-149 :
+pub a-solve-out-of-time-its-iteration-is-finished-2 :
     Shows (startLoop binary64 (record { n = 1; n1 = 1; n2 = 1; setY = true; limit = 3; outer = 1; limited = true; tolerance = int 1; epsilon = int 1; delta = int 1; akkt = int 1; penaltyFactor = 1 ·2^ 1; epsilonFactor = 1 /2^ 1; coefficient = 1 /2^ 1 }) (only (1 /2^ 2)) (int 1 ∷ null ∷ []))
     (asked Asks.LoopQuestion.time ▷ yea
     ∷ asked (Asks.LoopQuestion.projectY (only null)) ▷ vector (only (1 /2^ 1))
@@ -789,9 +802,9 @@ pub corner-149 :
     ∷ says (ended (handed (record { plan = (only (17 /2^ 2)); multipliers = (only (17 /2^ 1)); penalty = int 1; status = notConvergedIterations; outer = 1; inner = 1; norm = 1 /2^ 2; deltaY = 1 ·2^ 3; f2 = 1 ·2^ 3; cost = int 5 })))
     ∷ [])
 unfolding allLoop Shows spoken
-corner-149 = refl
+a-solve-out-of-time-its-iteration-is-finished-2 = refl
 
-pub corner-150 :
+pub a-solve-out-of-time-its-iteration-is-finished-3 :
     Shows (startLoop binary64 (record { n = 1; n1 = 0; n2 = 1; setY = false; limit = 3; outer = 1; limited = true; tolerance = int 1; epsilon = int 1; delta = int 1; akkt = int 1; penaltyFactor = 1 ·2^ 1; epsilonFactor = 1 /2^ 1; coefficient = 1 /2^ 1 }) (only (1 /2^ 2)) (only (int 1)))
     (asked Asks.LoopQuestion.time ▷ yea
     ∷ asked (Asks.inner (only (int 1)) (Asks.Question.cost (only (1 /2^ 2)))) ▷ number null
@@ -810,11 +823,11 @@ pub corner-150 :
     ∷ says (ended (handed (record { plan = (only (17 /2^ 2)); multipliers = []; penalty = int 1; status = notConvergedOutOfTime; outer = 1; inner = 1; norm = 1 /2^ 2; deltaY = null; f2 = 1 /2^ 1; cost = int 5 })))
     ∷ [])
 unfolding allLoop Shows spoken
-corner-150 = refl
+a-solve-out-of-time-its-iteration-is-finished-3 = refl
 
 -- ---- neither mapping: xi is empty and c is 0; the inner tolerance shrinks down to ε
 
-pub corner-151 :
+pub neither-mapping-xi-is-empty-and-c-is-0-1 :
     Shows (startLoop binary64 (record { n = 1; n1 = 0; n2 = 0; setY = false; limit = 2; outer = 3; limited = false; tolerance = 1 ·2^ 2; epsilon = 1 /2^ 1; delta = int 1; akkt = 1 ·2^ 1; penaltyFactor = 1 ·2^ 1; epsilonFactor = 1 /2^ 1; coefficient = 1 /2^ 1 }) (only null) [])
     (asked (Asks.inner [] (Asks.Question.cost (only null))) ▷ number null
     ∷ asked (Asks.inner [] (Asks.Question.gradient (only null))) ▷ vector (only null)
@@ -845,11 +858,11 @@ pub corner-151 :
     ∷ says (ended (handed (record { plan = (only (13 /2^ 2)); multipliers = []; penalty = null; status = converged; outer = 3; inner = 2; norm = 1 /2^ 2; deltaY = null; f2 = null; cost = int 9 })))
     ∷ [])
 unfolding allLoop Shows spoken
-corner-151 = refl
+neither-mapping-xi-is-empty-and-c-is-0-1 = refl
 
 -- ---- a plan of the first solve is where the next begins, shifted anew; 10 in the second solve keeps the lent places
 
-pub corner-152 :
+pub a-plan-of-the-first-solve-is-where-the-next-begins-1 :
     Shows (startLoop binary64 (record { n = 2; n1 = 1; n2 = 0; setY = false; limit = 1; outer = 3; limited = false; tolerance = int 1; epsilon = int 1; delta = int 1; akkt = int 1; penaltyFactor = 1 ·2^ 1; epsilonFactor = 1 /2^ 1; coefficient = 1 /2^ 1 }) (int 3 ∷ neg (int 1) ∷ []) (int 1 ∷ 1 /2^ 1 ∷ []))
     (asked (Asks.inner (int 1 ∷ 1 /2^ 1 ∷ []) (Asks.Question.cost (int 3 ∷ neg (int 1) ∷ []))) ▷ number null
     ∷ asked (Asks.inner (int 1 ∷ 1 /2^ 1 ∷ []) (Asks.Question.gradient (int 3 ∷ neg (int 1) ∷ []))) ▷ vector (null ∷ null ∷ [])
@@ -865,19 +878,19 @@ pub corner-152 :
     ∷ says (turned 6)
     ∷ [])
 unfolding allLoop Shows spoken
-corner-152 = refl
+a-plan-of-the-first-solve-is-where-the-next-begins-1 = refl
 
 -- ---- failures of the loop's own questions
 
-pub corner-153 :
+pub failures-of-the-loop-s-own-questions-1 :
     Shows (startLoop binary64 (record { n = 1; n1 = 1; n2 = 1; setY = true; limit = 1; outer = 1; limited = false; tolerance = int 1; epsilon = int 1; delta = int 1; akkt = int 1; penaltyFactor = 1 ·2^ 1; epsilonFactor = 1 /2^ 1; coefficient = 1 /2^ 1 }) (only (1 /2^ 2)) (int 1 ∷ null ∷ []))
     (asked (Asks.LoopQuestion.projectY (only null)) ▷ failure 20
     ∷ says (ended (failed 20))
     ∷ [])
 unfolding allLoop Shows spoken
-corner-153 = refl
+failures-of-the-loop-s-own-questions-1 = refl
 
-pub corner-154 :
+pub failures-of-the-loop-s-own-questions-2 :
     Shows (startLoop binary64 (record { n = 1; n1 = 1; n2 = 1; setY = true; limit = 1; outer = 1; limited = false; tolerance = int 1; epsilon = int 1; delta = int 1; akkt = int 1; penaltyFactor = 1 ·2^ 1; epsilonFactor = 1 /2^ 1; coefficient = 1 /2^ 1 }) (only (1 /2^ 2)) (int 1 ∷ null ∷ []))
     (asked (Asks.LoopQuestion.projectY (only null)) ▷ vector (1 /2^ 1 ∷ 1 /2^ 1 ∷ [])
     ∷ turned 8 ▷ vector (only nan)
@@ -890,9 +903,9 @@ pub corner-154 :
     ∷ says (ended (failed 21))
     ∷ [])
 unfolding allLoop Shows spoken
-corner-154 = refl
+failures-of-the-loop-s-own-questions-2 = refl
 
-pub corner-155 :
+pub failures-of-the-loop-s-own-questions-3 :
     Shows (startLoop binary64 (record { n = 1; n1 = 1; n2 = 1; setY = true; limit = 1; outer = 1; limited = false; tolerance = int 1; epsilon = int 1; delta = int 1; akkt = int 1; penaltyFactor = 1 ·2^ 1; epsilonFactor = 1 /2^ 1; coefficient = 1 /2^ 1 }) (only (1 /2^ 2)) (int 1 ∷ null ∷ []))
     (asked (Asks.LoopQuestion.projectY (only null)) ▷ vector (only (1 /2^ 1))
     ∷ asked (Asks.inner (int 1 ∷ 1 /2^ 1 ∷ []) (Asks.Question.cost (only (1 /2^ 2)))) ▷ number null
@@ -905,9 +918,9 @@ pub corner-155 :
     ∷ says (ended (failed 22))
     ∷ [])
 unfolding allLoop Shows spoken
-corner-155 = refl
+failures-of-the-loop-s-own-questions-3 = refl
 
-pub corner-156 :
+pub failures-of-the-loop-s-own-questions-4 :
     Shows (startLoop binary64 (record { n = 1; n1 = 1; n2 = 1; setY = true; limit = 1; outer = 1; limited = false; tolerance = int 1; epsilon = int 1; delta = int 1; akkt = int 1; penaltyFactor = 1 ·2^ 1; epsilonFactor = 1 /2^ 1; coefficient = 1 /2^ 1 }) (only (1 /2^ 2)) (int 1 ∷ null ∷ []))
     (asked (Asks.LoopQuestion.projectY (only null)) ▷ vector (only (1 /2^ 1))
     ∷ asked (Asks.inner (int 1 ∷ 1 /2^ 1 ∷ []) (Asks.Question.cost (only (1 /2^ 2)))) ▷ number null
@@ -921,4 +934,21 @@ pub corner-156 :
     ∷ says (ended (failed 23))
     ∷ [])
 unfolding allLoop Shows spoken
-corner-156 = refl
+failures-of-the-loop-s-own-questions-4 = refl
+
+pub failures-of-the-loop-s-own-questions-5 :
+    Shows (startLoop binary64 (record { n = 1; n1 = 1; n2 = 1; setY = true; limit = 1; outer = 1; limited = false; tolerance = int 1; epsilon = int 1; delta = int 1; akkt = int 1; penaltyFactor = 1 ·2^ 1; epsilonFactor = 1 /2^ 1; coefficient = 1 /2^ 1 }) (only (1 /2^ 2)) (int 1 ∷ null ∷ []))
+    (asked (Asks.LoopQuestion.projectY (only null)) ▷ vector (only (1 /2^ 1))
+    ∷ asked (Asks.inner (int 1 ∷ 1 /2^ 1 ∷ []) (Asks.Question.cost (only (1 /2^ 2)))) ▷ number null
+    ∷ asked (Asks.inner (int 1 ∷ 1 /2^ 1 ∷ []) (Asks.Question.gradient (only (1 /2^ 2)))) ▷ vector (only null)
+    ∷ asked (Asks.inner (int 1 ∷ 1 /2^ 1 ∷ []) (Asks.Question.gradient (only (4503604130970123 /2^ 54)))) ▷ vector (only null)
+    ∷ asked (Asks.inner (int 1 ∷ 1 /2^ 1 ∷ []) (Asks.Question.project (only (4503604130970123 /2^ 54)))) ▷ vector (only (1 /2^ 2))
+    ∷ asked (Asks.inner (int 1 ∷ 1 /2^ 1 ∷ []) (Asks.Question.cost (only (1 /2^ 2)))) ▷ number null
+    ∷ asked (Asks.LoopQuestion.f1 (only (1 /2^ 2))) ▷ vector (only (1 ·2^ 3))
+    ∷ asked (Asks.LoopQuestion.projectC (only (17 /2^ 1))) ▷ vector (only (1 ·2^ 3))
+    ∷ asked (Asks.LoopQuestion.f2 (only (1 /2^ 2))) ▷ vector (only null)
+    ∷ asked (Asks.LoopQuestion.cost (only (1 /2^ 2)) (null ∷ 1 /2^ 1 ∷ [])) ▷ failure 24
+    ∷ says (ended (failed 24))
+    ∷ [])
+unfolding allLoop Shows spoken
+failures-of-the-loop-s-own-questions-5 = refl

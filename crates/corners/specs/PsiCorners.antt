@@ -14,55 +14,55 @@ use Rattle.corners.specs.Shown.{Shows, spoken}
 
 -- ---- starts: the sizes, and the lower number first
 
-pub corner-65 :
+pub starts-the-sizes-65 :
     Shows (startPsi binary64 (record { n = 0; n1 = 0; n2 = 0 }) [] [])
     (says (ended (refused 1))
     ∷ [])
 unfolding allPsi Shows spoken
-corner-65 = refl
+starts-the-sizes-65 = refl
 
-pub corner-66 :
+pub starts-the-sizes-66 :
     Shows (startPsi binary64 (record { n = 2; n1 = 0; n2 = 0 }) (only null) [])
     (says (ended (refused 1))
     ∷ [])
 unfolding allPsi Shows spoken
-corner-66 = refl
+starts-the-sizes-66 = refl
 
-pub corner-67 :
+pub starts-the-sizes-67 :
     Shows (startPsi binary64 (record { n = 1; n1 = 0; n2 = 33 }) (only null) (only (int 1)))
     (says (ended (refused 2))
     ∷ [])
 unfolding allPsi Shows spoken
-corner-67 = refl
+starts-the-sizes-67 = refl
 
-pub corner-68 :
+pub starts-the-sizes-68 :
     Shows (startPsi binary64 (record { n = 1; n1 = 0; n2 = 0 }) (only null) (only (int 1)))
     (says (ended (refused 2))
     ∷ [])
 unfolding allPsi Shows spoken
-corner-68 = refl
+starts-the-sizes-68 = refl
 
-pub corner-69 :
+pub starts-the-sizes-69 :
     Shows (startPsi binary64 (record { n = 1; n1 = 1; n2 = 0 }) (only null) (only (int 1)))
     (ended (refused 2) ▷ number null
     ∷ says (turned 6)
     ∷ [])
 unfolding allPsi Shows spoken
-corner-69 = refl
+starts-the-sizes-69 = refl
 
 -- ---- a start drops the open run
 
-pub corner-160 :
+pub a-start-drops-the-open-run-4 :
     Shows (startPsi binary64 (record { n = 1; n1 = 0; n2 = 0 }) (only null) [])
     (asked (Asks.PsiQuestion.cost (only null)) ▷ number (1 ·2^ 2)
     ∷ says (ended (handed (1 ·2^ 2)))
     ∷ [])
 unfolding allPsi Shows spoken
-corner-160 = refl
+a-start-drops-the-open-run-4 = refl
 
 -- ---- psi: y by the larger of c and 1
 
-pub corner-161 :
+pub psi-y-by-the-larger-of-c-and-1-1 :
     Shows (startPsi binary64 (record { n = 1; n1 = 1; n2 = 0 }) (only (1 ·2^ 1)) (1 /2^ 1 ∷ int 1 ∷ []))
     (asked (Asks.PsiQuestion.cost (only (1 ·2^ 1))) ▷ number (int 3)
     ∷ asked (Asks.PsiQuestion.f1 (only (1 ·2^ 1))) ▷ vector (only (int 1))
@@ -71,9 +71,9 @@ pub corner-161 :
     ∷ says (turned 6)
     ∷ [])
 unfolding allPsi Shows spoken
-corner-161 = refl
+psi-y-by-the-larger-of-c-and-1-1 = refl
 
-pub corner-162 :
+pub psi-y-by-the-larger-of-c-and-1-2 :
     Shows (startPsi binary64 (record { n = 1; n1 = 1; n2 = 0 }) (only (1 ·2^ 1)) (1 ·2^ 2 ∷ int 1 ∷ []))
     (asked (Asks.PsiQuestion.cost (only (1 ·2^ 1))) ▷ number (int 3)
     ∷ asked (Asks.PsiQuestion.f1 (only (1 ·2^ 1))) ▷ vector (only (int 1))
@@ -81,9 +81,9 @@ pub corner-162 :
     ∷ says (ended (handed (33 /2^ 3)))
     ∷ [])
 unfolding allPsi Shows spoken
-corner-162 = refl
+psi-y-by-the-larger-of-c-and-1-2 = refl
 
-pub corner-163 :
+pub psi-y-by-the-larger-of-c-and-1-3 :
     Shows (startPsi binary64 (record { n = 1; n1 = 1; n2 = 0 }) (only (1 ·2^ 1)) (int 1 ∷ int 1 ∷ []))
     (asked (Asks.PsiQuestion.cost (only (1 ·2^ 1))) ▷ number (int 3)
     ∷ asked (Asks.PsiQuestion.f1 (only (1 ·2^ 1))) ▷ vector (only (int 1))
@@ -91,9 +91,9 @@ pub corner-163 :
     ∷ says (ended (handed (33 /2^ 3)))
     ∷ [])
 unfolding allPsi Shows spoken
-corner-163 = refl
+psi-y-by-the-larger-of-c-and-1-3 = refl
 
-pub corner-164 :
+pub psi-y-by-the-larger-of-c-and-1-4 :
     Shows (startPsi binary64 (record { n = 1; n1 = 1; n2 = 0 }) (only (1 ·2^ 1)) (nan ∷ int 1 ∷ []))
     (asked (Asks.PsiQuestion.cost (only (1 ·2^ 1))) ▷ number (int 3)
     ∷ asked (Asks.PsiQuestion.f1 (only (1 ·2^ 1))) ▷ vector (only (int 1))
@@ -101,9 +101,9 @@ pub corner-164 :
     ∷ says (ended (handed nan))
     ∷ [])
 unfolding allPsi Shows spoken
-corner-164 = refl
+psi-y-by-the-larger-of-c-and-1-4 = refl
 
-pub corner-165 :
+pub psi-y-by-the-larger-of-c-and-1-5 :
     Shows (startPsi binary64 (record { n = 1; n1 = 1; n2 = 0 }) (only (1 ·2^ 1)) (null ∷ int 1 ∷ []))
     (asked (Asks.PsiQuestion.cost (only (1 ·2^ 1))) ▷ number (int 3)
     ∷ asked (Asks.PsiQuestion.f1 (only (1 ·2^ 1))) ▷ vector (only (int 1))
@@ -111,9 +111,9 @@ pub corner-165 :
     ∷ says (ended (handed (int 3)))
     ∷ [])
 unfolding allPsi Shows spoken
-corner-165 = refl
+psi-y-by-the-larger-of-c-and-1-5 = refl
 
-pub corner-166 :
+pub psi-y-by-the-larger-of-c-and-1-6 :
     Shows (startPsi binary64 (record { n = 1; n1 = 1; n2 = 0 }) (only (1 ·2^ 1)) (neg (1 ·2^ 1) ∷ int 1 ∷ []))
     (asked (Asks.PsiQuestion.cost (only (1 ·2^ 1))) ▷ number (int 3)
     ∷ asked (Asks.PsiQuestion.f1 (only (1 ·2^ 1))) ▷ vector (only (int 1))
@@ -121,9 +121,9 @@ pub corner-166 :
     ∷ says (ended (handed (3 /2^ 2)))
     ∷ [])
 unfolding allPsi Shows spoken
-corner-166 = refl
+psi-y-by-the-larger-of-c-and-1-6 = refl
 
-pub corner-167 :
+pub psi-y-by-the-larger-of-c-and-1-7 :
     Shows (startPsi binary64 (record { n = 1; n1 = 1; n2 = 0 }) (only (1 ·2^ 1)) (inf false ∷ inf false ∷ []))
     (asked (Asks.PsiQuestion.cost (only (1 ·2^ 1))) ▷ number (int 3)
     ∷ asked (Asks.PsiQuestion.f1 (only (1 ·2^ 1))) ▷ vector (only (int 1))
@@ -131,18 +131,18 @@ pub corner-167 :
     ∷ says (ended (handed nan))
     ∷ [])
 unfolding allPsi Shows spoken
-corner-167 = refl
+psi-y-by-the-larger-of-c-and-1-7 = refl
 
-pub corner-168 :
+pub psi-y-by-the-larger-of-c-and-1-8 :
     Shows (startPsi binary64 (record { n = 2; n1 = 0; n2 = 2 }) (1 ·2^ 1 ∷ int 1 ∷ []) (only (int 3)))
     (asked (Asks.PsiQuestion.cost (1 ·2^ 1 ∷ int 1 ∷ [])) ▷ number (neg (int 1))
     ∷ asked (Asks.PsiQuestion.f2 (1 ·2^ 1 ∷ int 1 ∷ [])) ▷ vector (1 /2^ 2 ∷ int 3 ∷ [])
     ∷ says (ended (handed (403 /2^ 5)))
     ∷ [])
 unfolding allPsi Shows spoken
-corner-168 = refl
+psi-y-by-the-larger-of-c-and-1-8 = refl
 
-pub corner-169 :
+pub psi-y-by-the-larger-of-c-and-1-9 :
     Shows (startPsi binary64 (record { n = 2; n1 = 1; n2 = 2 }) (1 ·2^ 1 ∷ int 1 ∷ []) (int 3 ∷ 1 /2^ 1 ∷ []))
     (asked (Asks.PsiQuestion.cost (1 ·2^ 1 ∷ int 1 ∷ [])) ▷ number nan
     ∷ asked (Asks.PsiQuestion.f1 (1 ·2^ 1 ∷ int 1 ∷ [])) ▷ vector (only (1 /2^ 2))
@@ -151,26 +151,42 @@ pub corner-169 :
     ∷ says (ended (handed nan))
     ∷ [])
 unfolding allPsi Shows spoken
-corner-169 = refl
+psi-y-by-the-larger-of-c-and-1-9 = refl
 
-pub corner-170 :
+pub psi-y-by-the-larger-of-c-and-1-10 :
+    Shows (startPsi binary64 (record { n = 2; n1 = 2; n2 = 1 }) (1 ·2^ 1 ∷ int 1 ∷ []) (int 3 ∷ 1 /2^ 1 ∷ neg (1 /2^ 1) ∷ []))
+    (asked (Asks.PsiQuestion.cost (1 ·2^ 1 ∷ int 1 ∷ [])) ▷ yea
+    ∷ turned 7 ▷ vector (only (int 1))
+    ∷ turned 7 ▷ number (int 1)
+    ∷ asked (Asks.PsiQuestion.f1 (1 ·2^ 1 ∷ int 1 ∷ [])) ▷ vector (only (1 /2^ 2))
+    ∷ turned 8 ▷ vector (1 /2^ 2 ∷ int 1 ∷ [])
+    ∷ asked (Asks.PsiQuestion.projectC (3752999689475413 /2^ 53 ∷ 7505999378950827 /2^ 53 ∷ [])) ▷ number null
+    ∷ turned 7 ▷ vector (1 /2^ 2 ∷ 1 /2^ 1 ∷ [])
+    ∷ asked (Asks.PsiQuestion.f2 (1 ·2^ 1 ∷ int 1 ∷ [])) ▷ vector (int 3 ∷ 1 ·2^ 2 ∷ [])
+    ∷ turned 8 ▷ vector (only (int 3))
+    ∷ says (ended (handed (8280055564905131 /2^ 49)))
+    ∷ [])
+unfolding allPsi Shows spoken
+psi-y-by-the-larger-of-c-and-1-10 = refl
+
+pub psi-y-by-the-larger-of-c-and-1-11 :
     Shows (startPsi binary64 (record { n = 1; n1 = 1; n2 = 1 }) (only (1 ·2^ 1)) (int 1 ∷ int 1 ∷ []))
     (asked (Asks.PsiQuestion.cost (only (1 ·2^ 1))) ▷ failure 30
     ∷ says (ended (failed 30))
     ∷ [])
 unfolding allPsi Shows spoken
-corner-170 = refl
+psi-y-by-the-larger-of-c-and-1-11 = refl
 
-pub corner-171 :
+pub psi-y-by-the-larger-of-c-and-1-12 :
     Shows (startPsi binary64 (record { n = 1; n1 = 1; n2 = 1 }) (only (1 ·2^ 1)) (int 1 ∷ int 1 ∷ []))
     (asked (Asks.PsiQuestion.cost (only (1 ·2^ 1))) ▷ number null
     ∷ asked (Asks.PsiQuestion.f1 (only (1 ·2^ 1))) ▷ failure 31
     ∷ says (ended (failed 31))
     ∷ [])
 unfolding allPsi Shows spoken
-corner-171 = refl
+psi-y-by-the-larger-of-c-and-1-12 = refl
 
-pub corner-172 :
+pub psi-y-by-the-larger-of-c-and-1-13 :
     Shows (startPsi binary64 (record { n = 1; n1 = 1; n2 = 1 }) (only (1 ·2^ 1)) (int 1 ∷ int 1 ∷ []))
     (asked (Asks.PsiQuestion.cost (only (1 ·2^ 1))) ▷ number null
     ∷ asked (Asks.PsiQuestion.f1 (only (1 ·2^ 1))) ▷ vector (only null)
@@ -178,9 +194,9 @@ pub corner-172 :
     ∷ says (ended (failed 32))
     ∷ [])
 unfolding allPsi Shows spoken
-corner-172 = refl
+psi-y-by-the-larger-of-c-and-1-13 = refl
 
-pub corner-173 :
+pub psi-y-by-the-larger-of-c-and-1-14 :
     Shows (startPsi binary64 (record { n = 1; n1 = 1; n2 = 1 }) (only (1 ·2^ 1)) (int 1 ∷ int 1 ∷ []))
     (asked (Asks.PsiQuestion.cost (only (1 ·2^ 1))) ▷ number null
     ∷ asked (Asks.PsiQuestion.f1 (only (1 ·2^ 1))) ▷ vector (only null)
@@ -190,4 +206,4 @@ pub corner-173 :
     ∷ says (turned 6)
     ∷ [])
 unfolding allPsi Shows spoken
-corner-173 = refl
+psi-y-by-the-larger-of-c-and-1-14 = refl

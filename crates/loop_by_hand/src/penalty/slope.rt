@@ -2,13 +2,13 @@
 use crate::kiln;
 use crate::penalty::sizes;
 use crate::penalty::tell;
+use d_psi::answer;
+use d_psi::points;
+use d_psi::start;
 use factory::alm_factory::DPsiAnswered;
 use factory::alm_factory::DPsiOutcome;
 use factory::alm_factory::DPsiRun;
 use factory::alm_factory::PsiQuestion;
-use d_psi::answer;
-use d_psi::points;
-use d_psi::start;
 use panoc_core::panoc_cache::Reply;
 
 // The point of a question that is asked at u alone.

@@ -6,10 +6,10 @@ use factory::alm_factory::PsiAnswered;
 use factory::alm_factory::PsiOutcome;
 use factory::alm_factory::PsiQuestion;
 use factory::alm_factory::PsiRun;
+use panoc_core::panoc_cache::Reply;
 use psi::answer;
 use psi::points;
 use psi::start;
-use panoc_core::panoc_cache::Reply;
 
 // The point of a question that is asked at u.
 fn at_u(run: PsiRun) -> [f64; 2] {
