@@ -1,5 +1,6 @@
 // The small part of an inner solve in three lent arrays: w, k and f, laid out as specs/Image.antt says.
 ghost use mathlib.Core.Path.{_≡_};
+ghost use mathlib.Core.Bool.{cond};
 ghost use Rattle.image.specs.Image.{settingsGiven, settingsOf, numbersOf, withNumbers, solveOf, noted, notedCount, notedEnd, outcomeOf, stepOf};
 use crate::kinds::akkt_of;
 use crate::kinds::flag_number;
@@ -239,4 +240,19 @@ pub fn store(r: Stepped, w: &mut [u32; 6], k: &mut [usize; 6], f: &mut [f64; 13]
     let outcome = r.outcome;
     keep(solve, w, k, f);
     tell(outcome, w, k, f)
+}
+
+// The number by which an answer of no kind is refused: 7 where the run waits, else 6.
+fn strange(waits: bool) -> u32
+    ensures { λ r. ⌜ r ≡ cond waits 7 6 ⌝ }
+{
+    if waits { 7 } else { 6 }
+}
+
+// An answer of no kind is refused.
+pub fn refuse(waits: bool, w: &mut [u32; 6]) -> u32
+    ensures { λ r. ⌜ (now (w .exit) ≡ noted (cond waits 7 6) (now (w .entry))) × (r ≡ 2) ⌝ }
+{
+    note(strange(waits), w);
+    2
 }
