@@ -17,8 +17,7 @@ use Rattle.panoc_core.specs.declared.panoc_cache.Question.the-variants as Q
 use Rattle.panoc_core.specs.declared.panoc_cache.Settings.{Settings}
 use Rattle.panoc_core.specs.declared.panoc_cache.Solve.{Solve}
 use Rattle.panoc_core.specs.declared.panoc_cache.SolverStatus.{SolverStatus}
-use Rattle.panoc_core.specs.declared.panoc_cache.Stepped.{Stepped}
-use Rattle.image.specs.Image.{phaseOf, phaseNumber, statusOf, statusNumber, flagOf, flagNumber, questionOf, questionNumber, settingsOf, withNumbers, solveOf, noted, notedCount, notedEnd, outcomeOf, stepOf}
+use Rattle.image.specs.Image.{phaseOf, phaseNumber, statusOf, statusNumber, flagOf, flagNumber, questionOf, questionNumber, settingsOf, withNumbers, solveOf, noted, notedCount, notedEnd, Tells}
 
 -- a number from k on that is not k
 pub above : (k p : ℕ) → k ≤ p → (p ≡ k → ⊥) → k + 1 ≤ p
@@ -79,10 +78,7 @@ kept-as s w k f f′ p e b h₁ h₂ h₃ h₄ h₅ =
     ap (λ (l : List Float). solveOf (p ∷ getD w 1 0 ∷ e ∷ b ∷ getD w 4 0 ∷ getD w 5 0 ∷ []) (s .left ∷ s .iterations .0 ∷ s .rounds ∷ getD k 3 0 ∷ getD k 4 0 ∷ getD k 5 0 ∷ []) l) h₄
     ∙ made s (phaseOf p) (settingsOf w k f) (statusOf e) (flagOf b) (ap phaseOf h₁ ∙ phase-round (s .phase)) h₅ (ap statusOf h₂ ∙ status-round (s .status)) (ap flagOf h₃ ∙ flag-round (s .forget))
 
--- what a call tells leaves the small part
-abbrev Tells : Outcome → ℕ → List ℕ → List ℕ → List Float → List ℕ → List ℕ → List Float → Type 0
-Tells o r w k f w′ k′ f′ = (solveOf w′ k′ f′ ≡ solveOf w k f) × (outcomeOf r w′ k′ f′ ≡ o)
-
+-- ---- what a call tells
 pub asked-as : (o : Outcome) (q : Question) (m : ℕ) (w w′ k : List ℕ) (f : List Float) → o ≡ Asked q → m ≡ questionNumber q → w′ ≡ noted m w → Tells o 0 w k f w′ k f
 asked-as o q m w w′ k f h e n = rw (n, h) (refl, ap Asked (ap questionOf e ∙ question-round q))
 
@@ -97,8 +93,3 @@ refused-as o m w w′ k f h n = rw (n, h) (refl, refl)
 
 pub failed-as : (o : Outcome) (m : ℕ) (w w′ k : List ℕ) (f : List Float) → o ≡ Failed m → w′ ≡ noted m w → Tells o 3 w k f w′ k f
 failed-as o m w w′ k f h n = rw (n, h) (refl, refl)
-
--- what a call gave is stored
-pub stored-as : (s : Stepped) (r : ℕ) (w w′ k k′ : List ℕ) (f f′ : List Float) → solveOf w k f ≡ s .solve → Tells (s .outcome) r w k f w′ k′ f′ → stepOf r w′ k′ f′ ≡ s
-stored-as s r w w′ k k′ f f′ h t =
-    ap (λ (o : Outcome). record { outcome = o; solve = solveOf w′ k′ f′ }) (t .1) ∙ ap (λ (z : Solve). record { outcome = s .outcome; solve = z }) (t .0 ∙ h)

@@ -1,5 +1,6 @@
 -- What the numbers of a lent run stand for. Definitions only.
 use Prim.Native.Nat.{ℕ}
+use mathlib.Core.Path.{_≡_}
 use mathlib.Core.Bool.{Bool, true, false, not, cond}
 use mathlib.Core.List.{List, [], _∷_}
 use lib.Dec.{eqb}
@@ -138,6 +139,10 @@ outcomeOf r w k f = getD (Asked (questionOf (getD w 1 0)) ∷ Ended (statusAt w 
 
 abbrev pub stepOf : ℕ → List ℕ → List ℕ → List Float → Stepped
 stepOf r w k f = record { outcome = outcomeOf r w k f; solve = solveOf w k f }
+
+-- from w, k and f to w′, k′ and f′: the small part stays, and o is told
+abbrev pub Tells : Outcome → ℕ → List ℕ → List ℕ → List Float → List ℕ → List ℕ → List Float → Type 0
+Tells o r w k f w′ k′ f′ = (solveOf w′ k′ f′ ≡ solveOf w k f) × (outcomeOf r w′ k′ f′ ≡ o)
 
 -- ---- the lent numbers with some of them replaced
 abbrev pub withNumbers : Numbers → List Float → List Float
