@@ -4,7 +4,7 @@ use mathlib.Core.Path.{_≡_}
 use mathlib.Core.Bool.{Bool, true, false, not, cond}
 use mathlib.Core.List.{List, [], _∷_}
 use lib.Dec.{eqb}
-use lib.Ieee.{Float, nan}
+use lib.Ieee.{Float, binary64, nan, ofBits}
 use lib.ListN.{getD}
 use Rattle.panoc_core.specs.declared.panoc_cache.AkktTolerance.{AkktTolerance}
 use Rattle.panoc_core.specs.declared.panoc_cache.AkktTolerance.the-variants.{Missing, Set}
@@ -75,6 +75,14 @@ flagNumber b = cond b 1 0
 -- an AKKT tolerance, where one is set
 abbrev pub akktOf : ℕ → Float → AkktTolerance
 akktOf set t = cond (eqb set 0) Missing (Set t)
+
+abbrev pub akktSet : AkktTolerance → ℕ
+akktSet Missing = 0
+akktSet (Set t) = 1
+
+abbrev pub akktValue : AkktTolerance → Float
+akktValue Missing = ofBits binary64 0
+akktValue (Set t) = t
 
 -- the questions; DIRECTION has two numbers, the second where it says to forget
 abbrev pub questionOf : ℕ → Question

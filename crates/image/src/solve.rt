@@ -3,6 +3,8 @@ ghost use mathlib.Core.Path.{_≡_};
 ghost use mathlib.Core.Bool.{cond};
 ghost use Rattle.image.specs.Image.{settingsGiven, settingsOf, numbersOf, withNumbers, solveOf, noted, notedCount, notedEnd, Tells};
 use crate::kinds::akkt_of;
+use crate::kinds::akkt_set;
+use crate::kinds::akkt_value;
 use crate::kinds::flag_number;
 use crate::kinds::flag_of;
 use crate::kinds::phase_number;
@@ -108,6 +110,27 @@ pub fn begin(
         0.0,
         0.0,
     ];
+}
+
+// The settings of a solve into the lent numbers; the rest is put at 0.
+pub fn keep_settings(set: Settings, w: &mut [u32; 6], k: &mut [usize; 6], f: &mut [f64; 13])
+    ensures { λ _. ⌜ settingsOf (now (w .exit)) (now (k .exit)) (now (f .exit)) ≡ set ⌝ }
+{
+    let akkt = set.akkt_tolerance;
+    let limited = flag_number(set.limited);
+    let has = akkt_set(akkt);
+    let value = akkt_value(akkt);
+    begin(
+        set.n,
+        set.max_iter,
+        limited,
+        set.tolerance,
+        has,
+        value,
+        w,
+        k,
+        f,
+    );
 }
 
 // The running numbers into f.
