@@ -3,14 +3,7 @@
 
 The questions, points, end and plan are what `oracle expect` prints, which runs the Rust files unchanged; the answers are worked
 out here, in Python's floats. oracle/build.sh comes first. --check writes nothing and fails where the stored file differs."""
-import pathlib
-import struct
-import subprocess
-import sys
-
-TOP = pathlib.Path(__file__).resolve().parent.parent
-ORACLE = TOP / "oracle" / "target" / "release" / "oracle"
-STDOUT = TOP / "crates" / "solve_by_hand" / "stdout"
+from by_hand import hold, numbers, play, word, words
 
 CURVATURE = [1.0, 2.0, 8.0]
 CENTRE = [3.0, -1.0, 0.25]
@@ -20,18 +13,6 @@ START = [1.5, 0.0, 0.0]
 LIMIT = 5
 TOLERANCE = 1e-4
 AKKT_TOLERANCE = 1e-2
-
-
-def word(x):
-    return struct.pack(">d", x).hex()
-
-
-def number(text):
-    return struct.unpack(">d", bytes.fromhex(text))[0]
-
-
-def words(xs):
-    return " ".join(word(x) for x in xs)
 
 
 def cost(u):
@@ -53,11 +34,11 @@ def answer(question):
     """The answer to a printed question, None at an end."""
     kind, *rest = question.split(" ")
     if kind == "cost":
-        return "number " + word(cost([number(x) for x in rest]))
+        return "number " + word(cost(numbers(rest)))
     if kind == "gradient":
-        return "vector " + words(gradient([number(x) for x in rest]))
+        return "vector " + words(gradient(numbers(rest)))
     if kind == "project":
-        return "vector " + words(project([number(x) for x in rest]))
+        return "vector " + words(project(numbers(rest)))
     if kind == "direction":
         return "vector " + " ".join(rest[1:4])
     if kind == "time":
@@ -65,33 +46,11 @@ def answer(question):
     return None
 
 
-def expect(script):
-    """What the Rust prints for each line of a script."""
-    text = "".join(line + "\n" for line in script)
-    run = subprocess.run([ORACLE, "expect"], input=text, capture_output=True, text=True, check=True)
-    lines = run.stdout.splitlines()
-    assert len(lines) == len(script)
-    return lines
-
-
-def play():
-    settings = f"inner {len(START)} {LIMIT} 1 {word(TOLERANCE)} {word(AKKT_TOLERANCE)} {words(START)}"
-    script = [settings]
-    while (reply := answer(expect(script)[-1])) is not None:
-        script.append(reply)
-    lines = expect(script + ["show"])
-    plan = lines.pop().split(" ")[1 : 1 + len(START)]
-    return lines + ["plan " + " ".join(plan)]
-
-
 def main():
-    lines = play()
-    text = "".join(line + "\n" for line in lines)
-    if "--check" not in sys.argv[1:]:
-        STDOUT.write_text(text)
-    elif STDOUT.read_text() != text:
-        sys.exit("crates/solve_by_hand/stdout is not what tests/solve_by_hand.py makes")
-    print(f"{len(lines)} lines of the Rust's solve")
+    start = f"inner {len(START)} {LIMIT} 1 {word(TOLERANCE)} {word(AKKT_TOLERANCE)} {words(START)}"
+    lines, lent = play(start, answer)
+    plan = lent.split(" ")[1 : 1 + len(START)]
+    hold("solve_by_hand", lines + ["plan " + " ".join(plan)])
 
 
 main()

@@ -97,7 +97,7 @@ pub fn wants(s: Alm) -> Wanted
         match phase {
             AlmPhase::Time => Wanted::Decision,
             AlmPhase::ProjectY => Wanted::Vector(n1),
-            AlmPhase::Inner => panoc::panoc_answers::wants(solve),
+            AlmPhase::Inner => panoc_answers::wants(solve),
             AlmPhase::F1 => Wanted::Vector(n1),
             AlmPhase::ProjectC => Wanted::Vector(n1),
             AlmPhase::F2 => Wanted::Vector(n2),
@@ -182,7 +182,7 @@ pub fn take_inner(
     ensures { λ r. ⌜ Takes s (before u candidate gradient previous step half fpr direction best y plus w) a (now (v .entry)) r (after u candidate gradient previous step half fpr direction best y plus w) ⌝ }
 {
     let solve = s.solve;
-    let r = panoc::panoc_answers::take(
+    let r = panoc_answers::take(
         solve,
         a,
         v,

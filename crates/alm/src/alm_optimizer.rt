@@ -24,37 +24,22 @@ use alm_core::alm_cache::AlmStepped;
 use alm_core::alm_cache::OuterIterations;
 use alm_core::alm_steps::begins;
 use alm_core::alm_steps::stops;
-use panoc::panoc_optimizer::limit_right;
-use panoc::panoc_optimizer::sizes_right;
-use panoc::panoc_optimizer::tolerance_right;
 use panoc_core::panoc_cache::AkktTolerance;
 use panoc_core::panoc_cache::ExitStatus;
 use panoc_core::panoc_cache::InnerIterations;
 use panoc_core::panoc_cache::Reply;
 use panoc_core::panoc_cache::Settings;
 use panoc_core::refusals::refusal;
-
-// Whether so many places hold the penalty and n1 multipliers.
-pub fn holds(n1: usize, places: usize) -> bool
-    ensures { λ r. ⌜ r ≡ eqb places (n1 + 1) ⌝ }
-{
-    if places == 0 { false } else { places - 1 == n1 }
-}
-
-// Whether a xi of so many places is empty where n1 = n2 = 0, and else has the penalty and n1 multipliers.
-pub fn xi_fits(n1: usize, n2: usize, places: usize) -> bool
-    ensures { λ r. ⌜ r ≡ eqb places (R.xiLength n1 n2) ⌝ }
-{
-    if n1 == 0 {
-        if n2 == 0 {
-            places == 0
-        } else {
-            holds(n1, places)
-        }
-    } else {
-        holds(n1, places)
-    }
-}
+use starts::factor_right;
+use starts::fraction_right;
+use starts::limit_right;
+use starts::mappings_right;
+use starts::multipliers_in;
+use starts::penalty_in;
+use starts::sizes_right;
+use starts::tolerance_right;
+use starts::xi_fits;
+use starts::xi_right;
 
 // Whether the lent u and xi have the lengths asked.
 pub fn lent_fits(set: AlmSettings, us: usize, places: usize) -> bool
@@ -223,41 +208,6 @@ pub fn answer(run: AlmRun, a: Reply, v: &[f64], plan: &mut [f64], xi: &mut [f64]
     AlmAnswered { outcome, run }
 }
 
-// n1 and n2 at most 32, a xi of the length asked, and a set Y only where n1 > 0.
-pub fn mappings_right(n1: usize, n2: usize, with: bool, places: usize) -> bool
-    ensures { λ r. ⌜ r ≡ R.mappingsRight n1 n2 with places ⌝ }
-{
-    if 32 < n1 {
-        return false;
-    }
-    if 32 < n2 {
-        return false;
-    }
-    if xi_fits(n1, n2, places) {
-        if with { n1 != 0 } else { true }
-    } else {
-        false
-    }
-}
-
-// Finite and at least 1.
-pub fn factor_right(x: f64) -> bool
-    ensures { λ r. ⌜ r ≡ R.factorRight binary64 x ⌝ }
-{
-    if numeric::is_finite(x) {
-        1.0 <= x
-    } else {
-        false
-    }
-}
-
-// Strictly between 0 and 1.
-pub fn fraction_right(x: f64) -> bool
-    ensures { λ r. ⌜ r ≡ R.fractionRight binary64 x ⌝ }
-{
-    if 0.0 < x { x < 1.0 } else { false }
-}
-
 // The tolerances.
 pub fn tolerances_right(set: AlmSettings) -> bool
     ensures { λ r. ⌜ r ≡ tolerancesRight set ⌝ }
@@ -287,20 +237,6 @@ pub fn factors_right(set: AlmSettings) -> bool
         } else {
             false
         }
-    } else {
-        false
-    }
-}
-
-// c finite and above 0, and every y finite.
-pub fn xi_right(xi: &[f64]) -> bool
-    ensures { λ r. ⌜ r ≡ R.xiRight (now (xi .entry)) ⌝ }
-{
-    if xi.len() == 0 {
-        return true;
-    }
-    if tolerance_right(xi[0]) {
-        matrix_operations::is_finite_in(&xi[1..])
     } else {
         false
     }
@@ -342,24 +278,6 @@ pub fn limits_right(set: AlmSettings) -> bool
     } else {
         false
     }
-}
-
-// The penalty of a xi, 0 where it is empty.
-pub fn penalty_in(xi: &[f64]) -> f64
-    ensures { λ r. ⌜ r ≡ R.penaltyIn (now (xi .entry)) ⌝ }
-{
-    if xi.len() == 0 { 0.0 } else { xi[0] }
-}
-
-// The multipliers of a xi into an array.
-pub fn multipliers_in(xi: &[f64], y: &mut [f64; 64])
-    requires { ⌜ length (now xi) ≤ 33 ⌝ }
-    ensures { λ _. ⌜ firsts (length (R.multipliersIn (now (xi .entry)))) (now (y .exit)) ≡ R.multipliersIn (now (xi .entry)) ⌝ }
-{
-    if xi.len() == 0 {
-        return;
-    }
-    matrix_operations::take_into(&xi[1..], y);
 }
 
 // The small part of a run before its first outer iteration, with so many left after it.

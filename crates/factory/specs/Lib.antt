@@ -2,3 +2,4 @@ pub mod FactoryValues
 pub mod FactoryRest
 pub mod FactoryCalls
 pub mod FactoryBoard
+pub mod FactoryLaws

@@ -1,8 +1,6 @@
 // The records of psi and d_psi, the penalty functions of the multiplier loop, as runs that ask and answer.
-pub mod d_psi;
-pub(crate) mod points;
-pub mod psi;
-pub(crate) mod start;
+pub mod points;
+pub mod start;
 
 // n, n1 and n2: the places of u, of F1 and of F2.
 pub struct Sizes {

@@ -57,6 +57,10 @@ yea = record { reply = R.Reply.yes; vector = [] }
 abbrev pub nay : Given
 nay = record { reply = R.Reply.no; vector = [] }
 
+-- a failure, by its code
+abbrev pub failure : ℕ → Given
+failure code = record { reply = R.Reply.failure code; vector = [] }
+
 -- ---- what an inner solve asks
 
 -- the cost at a point

@@ -43,34 +43,6 @@ use Rattle.panoc_core.specs.Laws.{rest-at, rest-sound, rest-over, sound-n, soun
 use Rattle.panoc_core.specs.Wanted.{wanted-is, wanted-sound, refusal-zero, begun-sound, begun-rest}
 
 -- ---- the start's tests
-pub sizes-zero : (n us : ℕ) → n ≡ 0 → false ≡ sizesRight n us
-unfolding sizesRight
-sizes-zero n us e = rw e
-
-pub sizes-wide : (n us : ℕ) → (n ≡ 0 → ⊥) → 64 < n → false ≡ sizesRight n us
-unfolding sizesRight
-sizes-wide n us z h = let p : 0 < n = omega (arith, z) in rw (lt-ltb _ _ p, lt-leb _ _ h)
-
-pub sizes-is : (n us : ℕ) → (n ≡ 0 → ⊥) → n ≤ 64 → eqb us n ≡ sizesRight n us
-unfolding sizesRight
-sizes-is n us z h = let p : 0 < n = omega (arith, z) in rw (lt-ltb _ _ p, le-leb _ _ h)
-
-pub limit-zero : (most m : ℕ) → m ≡ 0 → false ≡ limitRight most m
-unfolding limitRight
-limit-zero most m e = rw e
-
-pub limit-is : (most m : ℕ) → (m ≡ 0 → ⊥) → leb m most ≡ limitRight most m
-unfolding limitRight
-limit-is most m z = let p : 0 < m = omega (arith, z) in rw (lt-ltb _ _ p)
-
-pub tolerance-is : (t : Float) (c : Bool) → c ≡ finite t → c ≡ true → lt (ofBits binary64 0) t ≡ toleranceRight t
-unfolding toleranceRight
-tolerance-is t c e q = ap (λ (z : Float). lt z t) (zero-bits binary64) ∙ sym (ap (λ (b : Bool). b && lt null t) (sym e ∙ q))
-
-pub tolerance-not : (t : Float) (c : Bool) → c ≡ finite t → c ≡ false → false ≡ toleranceRight t
-unfolding toleranceRight
-tolerance-not t c e q = sym (ap (λ (b : Bool). b && lt null t) (sym e ∙ q))
-
 pub akkt-missing : (a : AkktTolerance) → a ≡ A.Missing → true ≡ akktRight (akktOf a)
 unfolding akktRight
 akkt-missing a e = sym (ap (λ (z : AkktTolerance). akktRight (akktOf z)) e)

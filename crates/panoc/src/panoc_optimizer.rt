@@ -7,8 +7,8 @@ ghost use Rattle.model.specs.Refusals as R;
 ghost use Rattle.panoc_core.specs.Values.{akktOf, settingsOf};
 ghost use Rattle.panoc_core.specs.Board.{Board, runOf, gave, given, setU, before, after, Begins, begun, wantedOf, waiting, asked, firstPlaces, secondPlaces, firstAt};
 ghost use Rattle.panoc.specs.Calls.{Answers, Starts, Points};
-use crate::panoc_answers::take;
-use crate::panoc_answers::wants;
+use panoc_answers::take;
+use panoc_answers::wants;
 use panoc_core::panoc_cache::AkktTolerance;
 use panoc_core::panoc_cache::Answered;
 use panoc_core::panoc_cache::ExitStatus;
@@ -25,6 +25,9 @@ use panoc_core::panoc_cache::Stepped;
 use panoc_core::panoc_cache::stops;
 use panoc_core::refusals::Wanted;
 use panoc_core::refusals::refusal;
+use starts::limit_right;
+use starts::sizes_right;
+use starts::tolerance_right;
 
 // The number of the start's refusal, 1, 3 or 4, and 0 for none; us is the length of the lent u.
 pub fn start_refusal(set: Settings, us: usize) -> u32
@@ -43,34 +46,6 @@ pub fn start_refusal(set: Settings, us: usize) -> u32
         }
     } else {
         1
-    }
-}
-
-// n from 1 to 64, and a lent u of n places.
-pub fn sizes_right(n: usize, us: usize) -> bool
-    ensures { λ r. ⌜ r ≡ R.sizesRight n us ⌝ }
-{
-    if n == 0 {
-        return false;
-    }
-    if 64 < n { false } else { us == n }
-}
-
-// A limit from 1 on.
-pub fn limit_right(most: usize, m: usize) -> bool
-    ensures { λ r. ⌜ r ≡ R.limitRight most m ⌝ }
-{
-    if m == 0 { false } else { m <= most }
-}
-
-// Finite and above 0.
-pub fn tolerance_right(t: f64) -> bool
-    ensures { λ r. ⌜ r ≡ R.toleranceRight t ⌝ }
-{
-    if numeric::is_finite(t) {
-        0.0 < t
-    } else {
-        false
     }
 }
 

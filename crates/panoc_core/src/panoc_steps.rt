@@ -1,4 +1,4 @@
-// The solve between its steps and at its end.
+// A step with its tests, the solve between its steps and at its end.
 ghost use mathlib.Core.Path.{_≡_};
 ghost use mathlib.Core.List.{[]};
 ghost use lib.Ieee.{binary64};
@@ -18,9 +18,10 @@ use crate::panoc_cache::Stepped;
 use crate::panoc_cache::asks;
 use crate::panoc_cache::at_phase;
 use crate::panoc_cache::cache_best_half_step;
+use crate::panoc_cache::cache_previous_gradient;
+use crate::panoc_cache::exit_condition;
 use crate::panoc_cache::stops;
 use crate::panoc_cache::with_status;
-use crate::panoc_engine::step;
 
 // After the last step: the half step is scored once more, u is tested, and COST is asked at the best half step.
 pub fn finish(s: Solve, u: &[f64; 64], half: &[f64; 64], best: &mut [f64; 64]) -> Stepped
@@ -50,6 +51,35 @@ pub fn standing(s: Solve, in_time: bool) -> ExitStatus
         ExitStatus::Converged
     } else {
         ExitStatus::NotConvergedOutOfTime
+    }
+}
+
+// A step: the previous gradient, the residual, its norm and score, and the tests.
+pub fn step(
+    s: Solve,
+    u: &[f64; 64],
+    gradient: &[f64; 64],
+    previous: &mut [f64; 64],
+    half: &[f64; 64],
+    fpr: &mut [f64; 64],
+    best: &mut [f64; 64],
+) -> Stepped
+    requires { ⌜ Sound s ⌝ }
+    ensures { λ r. ⌜ ((b : Board) → Comes (s .set) (I.step binary64 (setOf s) (endOf s) (nextAt s) (iterateAt s (six (now (u .entry)) (now (gradient .entry)) (now (previous .entry)) (now (half .entry)) (now (fpr .entry)) (now (best .entry)) b))) r (six (now (u .entry)) (now (gradient .entry)) (now (previous .exit)) (now (half .entry)) (now (fpr .exit)) (now (best .exit)) b)) ⌝ }
+{
+    let n = s.set.n;
+    let done = s.iterations;
+    let k = done.0;
+    cache_previous_gradient(k, gradient, previous, n);
+    let norm = matrix_operations::residual_into(u, half, fpr, n);
+    let least = cache_best_half_step(norm, s.numbers.best_norm_gamma_fpr, half, best, n);
+    let mut t = s;
+    t.numbers.norm_gamma_fpr = norm;
+    t.numbers.best_norm_gamma_fpr = least;
+    if exit_condition(t, gradient, previous, fpr) {
+        finish(t, u, half, best)
+    } else {
+        asks(t, Phase::HalfCost, Question::Cost)
     }
 }
 

@@ -1,20 +1,15 @@
 // A quadratic with a box, solved by hand; tests/solve_by_hand.py made its stdout from what the Rust prints (`oracle expect`).
-use libc::STDOUT_FILENO;
 use panoc::panoc_optimizer::answer;
 use panoc::panoc_optimizer::points;
 use panoc::panoc_optimizer::start;
 use panoc_core::panoc_cache::AkktTolerance;
 use panoc_core::panoc_cache::Answered;
-use panoc_core::panoc_cache::ExitStatus;
 use panoc_core::panoc_cache::Outcome;
 use panoc_core::panoc_cache::Question;
 use panoc_core::panoc_cache::Reply;
 use panoc_core::panoc_cache::Run;
 use panoc_core::panoc_cache::Settings;
 use panoc_core::panoc_cache::SolverStatus;
-
-// The pattern that stands for every NaN.
-const QUIET: u64 = 9221120237041090560;
 
 // ½ × q × (u - c)²
 fn term(q: f64, u: f64, c: f64) -> f64 {
@@ -49,30 +44,6 @@ fn project(p: [f64; 3]) -> [f64; 3] {
     [x, y, z]
 }
 
-fn to_bits(x: f64) -> u64 {
-    if x != x {
-        return QUIET;
-    }
-    f64::to_bits(x)
-}
-
-fn print_float(x: f64) {
-    io::write_all(STDOUT_FILENO, b" ");
-    io::print_hex(STDOUT_FILENO, to_bits(x), 16);
-}
-
-fn print_vector(v: [f64; 3]) {
-    print_float(v[0]);
-    print_float(v[1]);
-    print_float(v[2]);
-}
-
-fn print_line(name: &[u8], v: [f64; 3]) {
-    io::write_all(STDOUT_FILENO, name);
-    print_vector(v);
-    io::write_all(STDOUT_FILENO, b"\n");
-}
-
 // The point of a question that has one.
 fn point(run: Run) -> [f64; 3] {
     let mut first = [0.0; 3];
@@ -83,21 +54,21 @@ fn point(run: Run) -> [f64; 3] {
 
 fn on_cost(run: Run, plan: &mut [f64; 3]) -> Answered {
     let u = point(run);
-    print_line(b"cost", u);
+    shown::line(b"cost", &u);
     let x = cost(u);
     answer(run, Reply::Number(x), &u, plan)
 }
 
 fn on_gradient(run: Run, plan: &mut [f64; 3]) -> Answered {
     let u = point(run);
-    print_line(b"gradient", u);
+    shown::line(b"gradient", &u);
     let v = gradient(u);
     answer(run, Reply::Vector, &v, plan)
 }
 
 fn on_project(run: Run, plan: &mut [f64; 3]) -> Answered {
     let p = point(run);
-    print_line(b"project", p);
+    shown::line(b"project", &p);
     let v = project(p);
     answer(run, Reply::Vector, &v, plan)
 }
@@ -107,19 +78,13 @@ fn on_direction(run: Run, forget: bool, plan: &mut [f64; 3]) -> Answered {
     let mut residual = [0.0; 3];
     let mut u = [0.0; 3];
     points(run, &mut residual, &mut u);
-    if forget {
-        io::write_all(STDOUT_FILENO, b"direction 1");
-    } else {
-        io::write_all(STDOUT_FILENO, b"direction 0");
-    }
-    print_vector(residual);
-    print_line(b" u", u);
+    shown::direction(forget, &residual, &u);
     answer(run, Reply::Vector, &residual, plan)
 }
 
 fn on_time(run: Run, plan: &mut [f64; 3]) -> Answered {
     let v = [0.0; 3];
-    io::write_all(STDOUT_FILENO, b"time\n");
+    shown::word(b"time\n");
     answer(run, Reply::Yes, &v, plan)
 }
 
@@ -134,42 +99,22 @@ fn turn(run: Run, question: Question, plan: &mut [f64; 3]) -> Answered {
     }
 }
 
-fn print_exit(status: ExitStatus) {
-    match status {
-        ExitStatus::Converged => {
-            io::write_all(STDOUT_FILENO, b"ended Converged ");
-        }
-        ExitStatus::NotConvergedIterations => {
-            io::write_all(STDOUT_FILENO, b"ended NotConvergedIterations ");
-        }
-        ExitStatus::NotConvergedOutOfTime => {
-            io::write_all(STDOUT_FILENO, b"ended NotConvergedOutOfTime ");
-        }
-    }
-}
-
 fn print_end(status: SolverStatus, plan: [f64; 3]) {
     let exit = status.exit_status;
     let iterations = status.iterations;
-    print_exit(exit);
-    io::print_decimal(STDOUT_FILENO, iterations.0 as u64);
-    print_float(status.norm_fpr);
-    print_float(status.cost_value);
-    print_line(b"\nplan", plan);
-}
-
-fn print_refused(number: u32) {
-    io::write_all(STDOUT_FILENO, b"refused ");
-    io::print_decimal(STDOUT_FILENO, number as u64);
-    io::write_all(STDOUT_FILENO, b"\n");
+    shown::exit_status(exit);
+    shown::whole(iterations.0);
+    shown::float(status.norm_fpr);
+    shown::float(status.cost_value);
+    shown::line(b"\nplan", &plan);
 }
 
 fn print_outcome(outcome: Outcome, plan: [f64; 3]) {
     match outcome {
         Outcome::Asked(_) => {}
         Outcome::Ended(status) => print_end(status, plan),
-        Outcome::Refused(number) => print_refused(number),
-        Outcome::Failed(_) => print_refused(9),
+        Outcome::Refused(number) => shown::refused(number),
+        Outcome::Failed(_) => shown::refused(9),
     }
 }
 

@@ -9,13 +9,13 @@ use crate::output::put_refused;
 use crate::psi_calls::first_places;
 use crate::psi_calls::put_psi_question;
 use crate::psi_calls::second_places;
+use d_psi::answer;
+use d_psi::points;
+use d_psi::start;
 use factory::alm_factory::DPsiOutcome;
 use factory::alm_factory::DPsiRun;
 use factory::alm_factory::PsiQuestion;
 use factory::alm_factory::Sizes;
-use factory::alm_factory::d_psi::answer;
-use factory::alm_factory::d_psi::points;
-use factory::alm_factory::d_psi::start;
 use panoc_core::panoc_cache::Reply;
 use words::printing::put_word;
 

@@ -4,7 +4,7 @@ ghost use Rattle.matrix_operations.specs.Firsts.{firsts};
 ghost use Rattle.factory.specs.FactoryCalls.{Placed};
 
 // The first n places of p and m of q into the slices, or 8 where one is not as long, which then stay as they were.
-pub(crate) fn place(
+pub fn place(
     p: &[f64; 64],
     n: usize,
     q: &[f64; 64],

@@ -1,4 +1,4 @@
-use Rattle.factory.proofs.FactoryLaws.{placed, placed-not-first, placed-not-second}
+use Rattle.factory.specs.FactoryLaws.{placed, placed-not-first, placed-not-second}
 use borrow.Author.Needs.{needs}
 use Rattle.factory.proofs.alm_factory.points.place.Statement.{statement}
 use Rattle.factory.proofs.alm_factory.points.place.Tie as tie

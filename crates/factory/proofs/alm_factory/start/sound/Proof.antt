@@ -1,4 +1,4 @@
-use Rattle.factory.proofs.FactoryLaws.{sound-is, sound-not-n, sound-not-n1}
+use Rattle.factory.specs.FactoryLaws.{sound-is, sound-not-n, sound-not-n1}
 use Rattle.factory.proofs.alm_factory.start.sound.Statement.{statement}
 use Rattle.factory.proofs.alm_factory.start.sound.Tie as tie
 

@@ -1,5 +1,5 @@
 use mathlib.Core.Path.{sym, _∙_}
-use Rattle.factory.proofs.FactoryLaws.{refusal-none, refusal-one, refusal-two}
+use Rattle.factory.specs.FactoryLaws.{refusal-none, refusal-one, refusal-two}
 use Rattle.factory.proofs.alm_factory.start.start_refusal.Statement.{statement}
 use Rattle.factory.proofs.alm_factory.start.start_refusal.Tie as tie
 

@@ -1,3 +1,0 @@
-pub mod FactoryLaws
-pub mod PsiLaws
-pub mod DPsiLaws

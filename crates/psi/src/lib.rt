@@ -1,0 +1,333 @@
+// psi: f + (c/2) × |t - P|² + (c/2) × |F2|², t = F1 + y / max(c, 1), P its projection on C.
+ghost use mathlib.Core.Path.{_≡_};
+ghost use mathlib.Core.Bool.{true};
+ghost use mathlib.Core.List.{List};
+ghost use lib.Ieee.{Float, binary64, add, mul, div};
+ghost use lib.ListN.{length};
+ghost use Rattle.ieee.specs.Numbers.{larger};
+ghost use Rattle.model.specs.Constants.{one, two};
+ghost use Rattle.model.specs.Refusals.{answerRefusal};
+ghost use Rattle.panoc_core.specs.Values.{replyOf, kindOf};
+ghost use Rattle.factory.specs.FactoryRest.{psiRest};
+ghost use Rattle.factory.specs.FactoryCalls.{PsiReaches, PsiStarts, PsiAnswers, Points};
+ghost use Rattle.factory.specs.FactoryBoard.{Sound, PsiBoard, PsiTakes, psiRunOf, psiGave, psiStepped, psiKind, psiF2At, psiUY, psiUT, psiW, psiTW, psiYTW};
+use factory::alm_factory::PsiAnswered;
+use factory::alm_factory::PsiOutcome;
+use factory::alm_factory::PsiPhase;
+use factory::alm_factory::PsiQuestion;
+use factory::alm_factory::PsiRun;
+use factory::alm_factory::PsiState;
+use factory::alm_factory::PsiStepped;
+use factory::alm_factory::Sizes;
+use factory::alm_factory::points::place;
+use factory::alm_factory::start::sound;
+use factory::alm_factory::start::start_refusal;
+use panoc_core::panoc_cache::Reply;
+use panoc_core::refusals::Wanted;
+use panoc_core::refusals::refusal;
+use starts::multipliers_in;
+use starts::penalty_in;
+
+// On to another phase, with what the call says.
+fn to(s: PsiState, phase: PsiPhase, outcome: PsiOutcome) -> PsiStepped
+    ensures { λ r. ⌜ r ≡ psiStepped outcome phase s ⌝ }
+{
+    let sizes = s.sizes;
+    let state = PsiState {
+        phase,
+        sizes,
+        c: s.c,
+        value: s.value,
+    };
+    PsiStepped { outcome, state }
+}
+
+// What y is divided by: the larger of the penalty and 1.
+fn divisor(penalty: f64) -> f64
+    ensures { λ r. ⌜ r ≡ larger penalty (one binary64) ⌝ }
+{
+    numeric::max(penalty, 1.0)
+}
+
+// The value with (c/2) × x added.
+fn penalized(value: f64, c: f64, x: f64) -> f64
+    ensures { λ r. ⌜ r ≡ add binary64 value (mul binary64 (div binary64 c (two binary64)) x) ⌝ }
+{
+    value + c / 2.0 * x
+}
+
+// The part of F1 is in the value: F2, or the end where there is none.
+fn ask_f2(s: PsiState) -> PsiStepped
+    requires { ⌜ Sound (s .sizes) ⌝ }
+    ensures { λ r. ⌜ ((b : PsiBoard) → PsiReaches (s .sizes) (psiF2At s b) (psiGave r b)) ⌝ }
+{
+    if s.sizes.n2 == 0 {
+        to(s, PsiPhase::Over, PsiOutcome::Ended(s.value))
+    } else {
+        to(s, PsiPhase::F2, PsiOutcome::Asked(PsiQuestion::F2))
+    }
+}
+
+// The cost of f at u is x.
+fn on_cost(s: PsiState, x: f64) -> PsiStepped
+    requires { ⌜ (Sound (s .sizes)) × (s .phase ≡ PsiPhase.Cost) ⌝ }
+    ensures { λ r. ⌜ ((b : PsiBoard) → (v : List Float) → PsiTakes s b (Reply.Number x) v r b) ⌝ }
+{
+    let mut t = s;
+    t.value = x;
+    if s.sizes.n1 == 0 {
+        ask_f2(t)
+    } else {
+        to(t, PsiPhase::F1, PsiOutcome::Asked(PsiQuestion::F1))
+    }
+}
+
+// F1 at u is v.
+fn on_f1(
+    s: PsiState,
+    v: &[f64],
+    y: &[f64; 64],
+    t: &mut [f64; 64],
+    work: &mut [f64; 64],
+) -> PsiStepped
+    requires { ⌜ (Sound (s .sizes)) × (s .phase ≡ PsiPhase.F1) × (length (now v) ≡ s .sizes .n1) ⌝ }
+    ensures { λ r. ⌜ ((b : PsiBoard) → PsiTakes s (psiYTW (now (y .entry)) (now (t .entry)) (now (work .entry)) b) Reply.Vector (now (v .entry)) r (psiYTW (now (y .entry)) (now (t .exit)) (now (work .exit)) b)) ⌝ }
+{
+    let n1 = s.sizes.n1;
+    let scale = divisor(s.c);
+    matrix_operations::take_into(v, work);
+    matrix_operations::plus_over_into(scale, work, y, t, n1);
+    to(
+        s,
+        PsiPhase::ProjectC,
+        PsiOutcome::Asked(PsiQuestion::ProjectC),
+    )
+}
+
+// The projection of t is v.
+fn on_project_c(s: PsiState, v: &[f64], t: &[f64; 64], work: &mut [f64; 64]) -> PsiStepped
+    requires { ⌜ (Sound (s .sizes)) × (s .phase ≡ PsiPhase.ProjectC) × (length (now v) ≡ s .sizes .n1) ⌝ }
+    ensures { λ r. ⌜ ((b : PsiBoard) → PsiTakes s (psiTW (now (t .entry)) (now (work .entry)) b) Reply.Vector (now (v .entry)) r (psiTW (now (t .entry)) (now (work .exit)) b)) ⌝ }
+{
+    let n1 = s.sizes.n1;
+    matrix_operations::take_into(v, work);
+    let distance = matrix_operations::norm2_squared_diff(t, work, n1);
+    let value = penalized(s.value, s.c, distance);
+    let mut p = s;
+    p.value = value;
+    ask_f2(p)
+}
+
+// F2 at u is v.
+fn on_f2(s: PsiState, v: &[f64], work: &mut [f64; 64]) -> PsiStepped
+    requires { ⌜ (Sound (s .sizes)) × (s .phase ≡ PsiPhase.F2) × (length (now v) ≡ s .sizes .n2) ⌝ }
+    ensures { λ r. ⌜ ((b : PsiBoard) → PsiTakes s (psiW (now (work .entry)) b) Reply.Vector (now (v .entry)) r (psiW (now (work .exit)) b)) ⌝ }
+{
+    let n2 = s.sizes.n2;
+    matrix_operations::take_into(v, work);
+    let norm = matrix_operations::norm2_squared(work, n2);
+    let value = penalized(s.value, s.c, norm);
+    to(s, PsiPhase::Over, PsiOutcome::Ended(value))
+}
+
+// What the run waits for: nothing where it has ended, or where no start made it.
+fn wants(s: PsiState) -> Wanted
+    ensures { λ r. ⌜ kindOf r ≡ psiKind s ⌝ }
+{
+    let sizes = s.sizes;
+    if sound(sizes) {
+        let phase = s.phase;
+        match phase {
+            PsiPhase::Cost => Wanted::Number,
+            PsiPhase::F1 => Wanted::Vector(sizes.n1),
+            PsiPhase::ProjectC => Wanted::Vector(sizes.n1),
+            PsiPhase::F2 => Wanted::Vector(sizes.n2),
+            PsiPhase::Over => Wanted::Nothing,
+        }
+    } else {
+        Wanted::Nothing
+    }
+}
+
+// The run as it was, with the number of a refusal.
+fn refuses(s: PsiState, number: u32) -> PsiStepped
+    ensures { λ r. ⌜ r ≡ psiStepped (PsiOutcome.Refused number) (s .phase) s ⌝ }
+{
+    PsiStepped {
+        outcome: PsiOutcome::Refused(number),
+        state: s,
+    }
+}
+
+// A vector that was asked for.
+fn on_vector(
+    s: PsiState,
+    v: &[f64],
+    y: &[f64; 64],
+    t: &mut [f64; 64],
+    work: &mut [f64; 64],
+) -> PsiStepped
+    requires { ⌜ answerRefusal (psiKind s) (replyOf Reply.Vector) (length (now v)) true ≡ 0 ⌝ }
+    ensures { λ r. ⌜ ((b : PsiBoard) → PsiTakes s (psiYTW (now (y .entry)) (now (t .entry)) (now (work .entry)) b) Reply.Vector (now (v .entry)) r (psiYTW (now (y .entry)) (now (t .exit)) (now (work .exit)) b)) ⌝ }
+{
+    let phase = s.phase;
+    match phase {
+        PsiPhase::F1 => on_f1(s, v, y, t, work),
+        PsiPhase::ProjectC => on_project_c(s, v, t, work),
+        PsiPhase::F2 => on_f2(s, v, work),
+        PsiPhase::Cost => refuses(s, 7),
+        PsiPhase::Over => refuses(s, 6),
+    }
+}
+
+// An answer that nothing refuses.
+fn step(
+    s: PsiState,
+    a: Reply,
+    v: &[f64],
+    y: &[f64; 64],
+    t: &mut [f64; 64],
+    work: &mut [f64; 64],
+) -> PsiStepped
+    requires { ⌜ answerRefusal (psiKind s) (replyOf a) (length (now v)) true ≡ 0 ⌝ }
+    ensures { λ r. ⌜ ((b : PsiBoard) → PsiTakes s (psiYTW (now (y .entry)) (now (t .entry)) (now (work .entry)) b) a (now (v .entry)) r (psiYTW (now (y .entry)) (now (t .exit)) (now (work .exit)) b)) ⌝ }
+{
+    match a {
+        Reply::Number(x) => on_cost(s, x),
+        Reply::Vector => on_vector(s, v, y, t, work),
+        Reply::Failure(code) => to(s, PsiPhase::Over, PsiOutcome::Failed(code)),
+        Reply::Yes => refuses(s, 7),
+        Reply::No => refuses(s, 7),
+    }
+}
+
+// An answer to the question of a run in place: v is the vector where one is answered.
+pub fn answer_in_place(
+    s: PsiState,
+    a: Reply,
+    v: &[f64],
+    y: &[f64; 64],
+    t: &mut [f64; 64],
+    work: &mut [f64; 64],
+) -> PsiStepped
+    ensures { λ r. ⌜ ((b : PsiBoard) → PsiAnswers (psiRunOf s (psiYTW (now (y .entry)) (now (t .entry)) (now (work .entry)) b)) a (now (v .entry)) (psiGave r (psiYTW (now (y .entry)) (now (t .exit)) (now (work .exit)) b))) ⌝ }
+{
+    let number = refusal(wants(s), a, v.len(), true);
+    if number == 0 {
+        step(s, a, v, y, t, work)
+    } else {
+        refuses(s, number)
+    }
+}
+
+// An answer to the question of a run by value.
+pub fn answer(run: PsiRun, a: Reply, v: &[f64]) -> PsiAnswered
+    ensures { λ r. ⌜ PsiAnswers run a (now (v .entry)) r ⌝ }
+{
+    let s = run.state;
+    let u = run.u;
+    let y = run.y;
+    let mut t = run.t;
+    let mut work = run.work;
+    let r = answer_in_place(s, a, v, &y, &mut t, &mut work);
+    let outcome = r.outcome;
+    let state = r.state;
+    let run = PsiRun {
+        state,
+        u,
+        y,
+        t,
+        work,
+    };
+    PsiAnswered { outcome, run }
+}
+
+// A run in place that is begun at a lent u and xi, or its refusal.
+pub fn start_in_place(
+    sizes: Sizes,
+    at: &[f64],
+    xi: &[f64],
+    u: &mut [f64; 64],
+    y: &mut [f64; 64],
+) -> PsiStepped
+    ensures { λ r. ⌜ ((b : PsiBoard) → PsiStarts sizes (now (at .entry)) (now (xi .entry)) (psiGave r (psiUY (now (u .exit)) (now (y .exit)) b))) ⌝ }
+{
+    let number = start_refusal(sizes, at.len(), xi.len());
+    if number == 0 {
+        matrix_operations::take_into(at, u);
+        multipliers_in(xi, y);
+        let c = penalty_in(xi);
+        let state = PsiState {
+            phase: PsiPhase::Cost,
+            sizes,
+            c,
+            value: 0.0,
+        };
+        PsiStepped {
+            outcome: PsiOutcome::Asked(PsiQuestion::Cost),
+            state,
+        }
+    } else {
+        let state = PsiState {
+            phase: PsiPhase::Over,
+            sizes,
+            c: 0.0,
+            value: 0.0,
+        };
+        refuses(state, number)
+    }
+}
+
+// A run by value that is begun at a lent u and xi, or its refusal.
+pub fn start(sizes: Sizes, at: &[f64], xi: &[f64]) -> PsiAnswered
+    ensures { λ r. ⌜ PsiStarts sizes (now (at .entry)) (now (xi .entry)) r ⌝ }
+{
+    let mut u = matrix_operations::zeros();
+    let mut y = matrix_operations::zeros();
+    let t = matrix_operations::zeros();
+    let work = matrix_operations::zeros();
+    let r = start_in_place(sizes, at, xi, &mut u, &mut y);
+    let outcome = r.outcome;
+    let state = r.state;
+    let run = PsiRun {
+        state,
+        u,
+        y,
+        t,
+        work,
+    };
+    PsiAnswered { outcome, run }
+}
+
+// The point of the question of a run in place, into first; no question of psi has a second.
+pub fn points_in_place<'a>(
+    s: PsiState,
+    first: &mut [f64],
+    second: &mut [f64],
+    u: &'a [f64; 64],
+    t: &'a [f64; 64],
+) -> u32
+    ensures { λ r. ⌜ ((b : PsiBoard) → Points (psiRest (psiRunOf s (psiUT (now (u .entry)) (now (t .entry)) b))) (now (first .entry)) (now (first .exit)) (now (second .entry)) (now (second .exit)) r) ⌝ }
+{
+    let sizes = s.sizes;
+    if sound(sizes) {
+        let phase = s.phase;
+        match phase {
+            PsiPhase::Cost => place(u, sizes.n, u, 0, first, second),
+            PsiPhase::F1 => place(u, sizes.n, u, 0, first, second),
+            PsiPhase::ProjectC => place(t, sizes.n1, t, 0, first, second),
+            PsiPhase::F2 => place(u, sizes.n, u, 0, first, second),
+            PsiPhase::Over => 6,
+        }
+    } else {
+        6
+    }
+}
+
+// The point of the question of a run by value.
+pub fn points(run: PsiRun, first: &mut [f64], second: &mut [f64]) -> u32
+    ensures { λ r. ⌜ Points (psiRest run) (now (first .entry)) (now (first .exit)) (now (second .entry)) (now (second .exit)) r ⌝ }
+{
+    let s = run.state;
+    points_in_place(s, first, second, &run.u, &run.t)
+}
