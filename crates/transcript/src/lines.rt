@@ -78,6 +78,7 @@ pub struct Done {
     pub at: usize,
 }
 
+// The whole lines from a place on, each read and done.
 pub fn lines(
     session: Session,
     buf: &[u8],

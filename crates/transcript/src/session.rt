@@ -17,6 +17,7 @@ pub enum Kind {
     DPsi,
 }
 
+// kind says which run is open: answers go to it.
 pub struct Session {
     pub kind: Kind,
     pub inner: Run,
