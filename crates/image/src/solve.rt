@@ -1,0 +1,258 @@
+// The small part of an inner solve in three lent arrays: w, k and f, laid out as specs/Image.antt says.
+ghost use mathlib.Core.Path.{_≡_};
+ghost use mathlib.Core.Bool.{cond};
+ghost use Rattle.image.specs.Image.{settingsGiven, settingsOf, numbersOf, withNumbers, solveOf, noted, notedCount, notedEnd, outcomeOf, stepOf};
+use crate::kinds::akkt_of;
+use crate::kinds::flag_number;
+use crate::kinds::flag_of;
+use crate::kinds::phase_number;
+use crate::kinds::phase_of;
+use crate::kinds::question_number;
+use crate::kinds::status_number;
+use crate::kinds::status_of;
+use panoc_core::panoc_cache::InnerIterations;
+use panoc_core::panoc_cache::Numbers;
+use panoc_core::panoc_cache::Outcome;
+use panoc_core::panoc_cache::Settings;
+use panoc_core::panoc_cache::Solve;
+use panoc_core::panoc_cache::Stepped;
+
+// The settings of a start, from its numbers.
+pub fn settings_given(
+    n: usize,
+    max_iter: usize,
+    limited: u32,
+    tolerance: f64,
+    has_akkt: u32,
+    akkt: f64,
+) -> Settings
+    ensures { λ r. ⌜ r ≡ settingsGiven n «max_iter» limited tolerance «has_akkt» akkt ⌝ }
+{
+    let limited = flag_of(limited);
+    let akkt_tolerance = akkt_of(has_akkt, akkt);
+    Settings {
+        n,
+        max_iter,
+        limited,
+        tolerance,
+        akkt_tolerance,
+    }
+}
+
+// The running numbers.
+pub fn numbers_of(f: &[f64; 13]) -> Numbers
+    ensures { λ r. ⌜ r ≡ numbersOf (now (f .entry)) ⌝ }
+{
+    Numbers {
+        cost_value: f[0],
+        lipschitz_constant: f[1],
+        gamma: f[2],
+        sigma: f[3],
+        norm_gamma_fpr: f[4],
+        best_norm_gamma_fpr: f[5],
+        tau: f[6],
+        rhs_ls: f[7],
+        norm_h: f[8],
+    }
+}
+
+// The small part of the run that the lent numbers stand for.
+pub fn solve_of(w: &[u32; 6], k: &[usize; 6], f: &[f64; 13]) -> Solve
+    ensures { λ r. ⌜ r ≡ solveOf (now (w .entry)) (now (k .entry)) (now (f .entry)) ⌝ }
+{
+    let phase = phase_of(w[0]);
+    let set = settings_given(k[3], k[4], w[4], f[9], w[5], f[10]);
+    let numbers = numbers_of(f);
+    let iterations = InnerIterations(k[1]);
+    let status = status_of(w[2]);
+    let forget = flag_of(w[3]);
+    Solve {
+        phase,
+        set,
+        numbers,
+        left: k[0],
+        iterations,
+        status,
+        rounds: k[2],
+        forget,
+    }
+}
+
+// The settings of a start into the lent numbers; the rest is put at 0.
+pub fn begin(
+    n: usize,
+    max_iter: usize,
+    limited: u32,
+    tolerance: f64,
+    has_akkt: u32,
+    akkt: f64,
+    w: &mut [u32; 6],
+    k: &mut [usize; 6],
+    f: &mut [f64; 13],
+)
+    ensures { λ _. ⌜ settingsOf (now (w .exit)) (now (k .exit)) (now (f .exit)) ≡ settingsGiven n «max_iter» limited tolerance «has_akkt» akkt ⌝ }
+{
+    *w = [0, 0, 0, 0, limited, has_akkt];
+    *k = [0, 0, 0, n, max_iter, 0];
+    *f = [
+        0.0,
+        0.0,
+        0.0,
+        0.0,
+        0.0,
+        0.0,
+        0.0,
+        0.0,
+        0.0,
+        tolerance,
+        akkt,
+        0.0,
+        0.0,
+    ];
+}
+
+// The running numbers into f.
+fn keep_numbers(x: Numbers, f: &mut [f64; 13])
+    ensures { λ _. ⌜ now (f .exit) ≡ withNumbers x (now (f .entry)) ⌝ }
+{
+    let tolerance = f[9];
+    let akkt = f[10];
+    let norm = f[11];
+    let cost = f[12];
+    *f = [
+        x.cost_value,
+        x.lipschitz_constant,
+        x.gamma,
+        x.sigma,
+        x.norm_gamma_fpr,
+        x.best_norm_gamma_fpr,
+        x.tau,
+        x.rhs_ls,
+        x.norm_h,
+        tolerance,
+        akkt,
+        norm,
+        cost,
+    ];
+}
+
+// The small part of a run under the settings that the lent numbers have.
+fn keep(s: Solve, w: &mut [u32; 6], k: &mut [usize; 6], f: &mut [f64; 13])
+    requires { ⌜ settingsOf (now w) (now k) (now f) ≡ s .set ⌝ }
+    ensures { λ _. ⌜ solveOf (now (w .exit)) (now (k .exit)) (now (f .exit)) ≡ s ⌝ }
+{
+    let at = s.phase;
+    let stands = s.status;
+    let phase = phase_number(at);
+    let status = status_number(stands);
+    let forget = flag_number(s.forget);
+    let told = w[1];
+    let limited = w[4];
+    let akkt = w[5];
+    *w = [phase, told, status, forget, limited, akkt];
+    let left = s.left;
+    let rounds = s.rounds;
+    let iterations = s.iterations;
+    let done = iterations.0;
+    let n = k[3];
+    let m = k[4];
+    let ended = k[5];
+    *k = [left, done, rounds, n, m, ended];
+    let numbers = s.numbers;
+    keep_numbers(numbers, f);
+}
+
+// The number that a call tells: a question's, an end's, a refusal's, a code.
+pub fn note(number: u32, w: &mut [u32; 6])
+    ensures { λ _. ⌜ now (w .exit) ≡ noted number (now (w .entry)) ⌝ }
+{
+    let phase = w[0];
+    let status = w[2];
+    let forget = w[3];
+    let limited = w[4];
+    let akkt = w[5];
+    *w = [phase, number, status, forget, limited, akkt];
+}
+
+// The numbers of an end.
+pub fn note_end(iterations: usize, norm: f64, cost: f64, k: &mut [usize; 6], f: &mut [f64; 13])
+    ensures { λ _. ⌜ (now (k .exit) ≡ notedCount iterations (now (k .entry))) × (now (f .exit) ≡ notedEnd norm cost (now (f .entry))) ⌝ }
+{
+    let left = k[0];
+    let done = k[1];
+    let rounds = k[2];
+    let n = k[3];
+    let m = k[4];
+    *k = [left, done, rounds, n, m, iterations];
+    let x = numbers_of(f);
+    let tolerance = f[9];
+    let akkt = f[10];
+    *f = [
+        x.cost_value,
+        x.lipschitz_constant,
+        x.gamma,
+        x.sigma,
+        x.norm_gamma_fpr,
+        x.best_norm_gamma_fpr,
+        x.tau,
+        x.rhs_ls,
+        x.norm_h,
+        tolerance,
+        akkt,
+        norm,
+        cost,
+    ];
+}
+
+// What a call has told; its kind is the result.
+fn tell(o: Outcome, w: &mut [u32; 6], k: &mut [usize; 6], f: &mut [f64; 13]) -> u32
+    ensures { λ r. ⌜ (solveOf (now (w .exit)) (now (k .exit)) (now (f .exit)) ≡ solveOf (now (w .entry)) (now (k .entry)) (now (f .entry))) × (outcomeOf r (now (w .exit)) (now (k .exit)) (now (f .exit)) ≡ o) ⌝ }
+{
+    match o {
+        Outcome::Asked(q) => {
+            note(question_number(q), w);
+            0
+        }
+        Outcome::Ended(end) => {
+            let status = end.exit_status;
+            note(status_number(status), w);
+            let iterations = end.iterations;
+            note_end(iterations.0, end.norm_fpr, end.cost_value, k, f);
+            1
+        }
+        Outcome::Refused(number) => {
+            note(number, w);
+            2
+        }
+        Outcome::Failed(code) => {
+            note(code, w);
+            3
+        }
+    }
+}
+
+// What a call in place gave, into the lent numbers, which have its settings; the outcome's kind.
+pub fn store(r: Stepped, w: &mut [u32; 6], k: &mut [usize; 6], f: &mut [f64; 13]) -> u32
+    requires { ⌜ settingsOf (now w) (now k) (now f) ≡ r .solve .set ⌝ }
+    ensures { λ c. ⌜ stepOf c (now (w .exit)) (now (k .exit)) (now (f .exit)) ≡ r ⌝ }
+{
+    let solve = r.solve;
+    let outcome = r.outcome;
+    keep(solve, w, k, f);
+    tell(outcome, w, k, f)
+}
+
+// The number by which an answer of no kind is refused: 7 where the run waits, else 6.
+fn strange(waits: bool) -> u32
+    ensures { λ r. ⌜ r ≡ cond waits 7 6 ⌝ }
+{
+    if waits { 7 } else { 6 }
+}
+
+// An answer of no kind is refused.
+pub fn refuse(waits: bool, w: &mut [u32; 6]) -> u32
+    ensures { λ r. ⌜ (now (w .exit) ≡ noted (cond waits 7 6) (now (w .entry))) × (r ≡ 2) ⌝ }
+{
+    note(strange(waits), w);
+    2
+}
