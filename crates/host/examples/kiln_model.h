@@ -9,7 +9,7 @@
 enum { KILN_PERIODS = 24, KILN_MEMORY = 12 };
 
 static const double KILN_ROOM = 20;    /* degrees, also at the start */
-static const double KILN_LOSS = 0.08;  /* share of the distance from the room that is lost in a period */
+static const double KILN_KEEP = 0.92;  /* share of the distance from the room that is left after a period */
 static const double KILN_HEAT = 110;   /* degrees that full power gives in a period */
 static const double KILN_POWER = 0.01; /* cost of power */
 
@@ -22,7 +22,7 @@ static const double KILN_CURVE[KILN_PERIODS] = {
 static inline void kiln_temperatures(const double *u, double *t) {
   double now = KILN_ROOM;
   for (size_t i = 0; i < KILN_PERIODS; i++) {
-    now = now + KILN_LOSS * (KILN_ROOM - now) + KILN_HEAT * u[i];
+    now = KILN_KEEP * now + ((1 - KILN_KEEP) * KILN_ROOM + KILN_HEAT * u[i]);
     t[i] = now;
   }
 }
@@ -42,7 +42,7 @@ static inline void kiln_gradient(const double *u, double *g) {
   double t[KILN_PERIODS], degree = 0;
   kiln_temperatures(u, t);
   for (size_t i = KILN_PERIODS; i-- > 0;) {
-    degree = (1 - KILN_LOSS) * degree + 2 * (t[i] - KILN_CURVE[i]) / 10000;
+    degree = KILN_KEEP * degree + 2 * (t[i] - KILN_CURVE[i]) / 10000;
     g[i] = KILN_HEAT * degree + 2 * KILN_POWER * u[i];
   }
 }
@@ -61,23 +61,26 @@ static inline double kiln_dot(const double *a, const double *b) {
   return (sum[0] + sum[1]) + (sum[2] + sum[3]);
 }
 
-/* The latest changes of u (s) and of the residual (y), in a ring whose latest stands before place next. */
+/* The latest changes of u (s) and of the residual (y), with 1 / (s · y), in a ring whose latest stands before place next. */
 typedef struct {
   size_t pairs, next;
   int has_last;
   double last_u[KILN_PERIODS], last_r[KILN_PERIODS];
-  double s[KILN_MEMORY][KILN_PERIODS], y[KILN_MEMORY][KILN_PERIODS];
+  double s[KILN_MEMORY][KILN_PERIODS], y[KILN_MEMORY][KILN_PERIODS], rho[KILN_MEMORY], scale;
 } kiln_memory;
 
-/* Keeps the change since the last residual, where it shows a positive curvature. */
-static inline void kiln_remember(kiln_memory *m, const double *r, const double *u) {
+/* Keeps the change since the last residual at the periods that are free, where it shows a positive curvature. */
+static inline void kiln_remember(kiln_memory *m, const double *free, const double *r, const double *u) {
   if (m->has_last) {
     double *s = m->s[m->next], *y = m->y[m->next];
     for (size_t i = 0; i < KILN_PERIODS; i++) {
-      s[i] = u[i] - m->last_u[i];
-      y[i] = r[i] - m->last_r[i];
+      s[i] = free[i] * (u[i] - m->last_u[i]);
+      y[i] = free[i] * (r[i] - m->last_r[i]);
     }
-    if (kiln_dot(s, y) > 1e-10 * kiln_dot(s, s)) {
+    const double sy = kiln_dot(s, y);
+    if (sy > 1e-10 * kiln_dot(s, s)) {
+      m->rho[m->next] = 1 / sy;
+      m->scale = sy / kiln_dot(y, y);
       m->next = m->next + 1 == KILN_MEMORY ? 0 : m->next + 1;
       if (m->pairs < KILN_MEMORY) m->pairs++;
     }
@@ -89,34 +92,26 @@ static inline void kiln_remember(kiln_memory *m, const double *r, const double *
   m->has_last = 1;
 }
 
-/* The direction for the residual r at u: r itself where the half step u - r lies at a bound, L-BFGS over the other periods. Where forget
- * is not 0, earlier pairs are dropped first. */
+/* The direction for the residual r at u: r itself where the half step u - r lies at a bound, L-BFGS over the periods that are free. Where
+ * forget is not 0, earlier pairs are dropped first. */
 static inline void kiln_direction(kiln_memory *m, int forget, const double *r, const double *u, double *d) {
-  double free[KILN_PERIODS], y[KILN_MEMORY][KILN_PERIODS], sy[KILN_MEMORY], a[KILN_MEMORY], scale = 0;
-  size_t place = 0;
-  if (forget) m->pairs = m->next = 0, m->has_last = 0;
-  kiln_remember(m, r, u);
+  double free[KILN_PERIODS], a[KILN_MEMORY];
+  if (forget) m->pairs = m->next = 0, m->has_last = 0, m->scale = 1;
   for (size_t i = 0; i < KILN_PERIODS; i++) {
     free[i] = u[i] - r[i] > 0 && u[i] - r[i] < 1 ? 1 : 0;
     d[i] = free[i] * r[i];
   }
-  place = m->next;
+  kiln_remember(m, free, r, u);
+  size_t place = m->next;
   for (size_t j = 0; j < m->pairs; j++) {
     place = place == 0 ? KILN_MEMORY - 1 : place - 1;
-    for (size_t i = 0; i < KILN_PERIODS; i++) y[j][i] = free[i] * m->y[place][i];
-    sy[j] = kiln_dot(m->s[place], y[j]);
-    if (!(sy[j] > 0)) continue;
-    if (scale == 0) scale = sy[j] / kiln_dot(y[j], y[j]);
-    a[j] = kiln_dot(m->s[place], d) / sy[j];
-    for (size_t i = 0; i < KILN_PERIODS; i++) d[i] = d[i] - a[j] * y[j][i];
+    a[j] = m->rho[place] * kiln_dot(m->s[place], d);
+    for (size_t i = 0; i < KILN_PERIODS; i++) d[i] = d[i] - a[j] * m->y[place][i];
   }
-  if (scale == 0) scale = 1;
-  for (size_t i = 0; i < KILN_PERIODS; i++) d[i] = scale * d[i];
+  for (size_t i = 0; i < KILN_PERIODS; i++) d[i] = m->scale * d[i];
   for (size_t j = m->pairs; j-- > 0;) {
-    if (sy[j] > 0) {
-      const double b = a[j] - kiln_dot(y[j], d) / sy[j];
-      for (size_t i = 0; i < KILN_PERIODS; i++) d[i] = d[i] + b * (free[i] * m->s[place][i]);
-    }
+    const double b = a[j] - m->rho[place] * kiln_dot(m->y[place], d);
+    for (size_t i = 0; i < KILN_PERIODS; i++) d[i] = d[i] + b * m->s[place][i];
     place = place + 1 == KILN_MEMORY ? 0 : place + 1;
   }
   for (size_t i = 0; i < KILN_PERIODS; i++) d[i] = free[i] > 0 ? d[i] : r[i];

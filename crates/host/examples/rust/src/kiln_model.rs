@@ -3,7 +3,7 @@
 pub const PERIODS: usize = 24;
 const MEMORY: usize = 12;
 const ROOM: f64 = 20.0;
-const LOSS: f64 = 0.08;
+const KEEP: f64 = 0.92;
 const HEAT: f64 = 110.0;
 const POWER: f64 = 0.01;
 
@@ -20,7 +20,7 @@ pub const CURVE: Plan = [
 pub fn temperatures(u: &Plan) -> Plan {
     let mut now = ROOM;
     u.map(|u| {
-        now = now + LOSS * (ROOM - now) + HEAT * u;
+        now = KEEP * now + ((1.0 - KEEP) * ROOM + HEAT * u);
         now
     })
 }
@@ -38,7 +38,7 @@ pub fn gradient(u: &Plan) -> Plan {
     let t = temperatures(u);
     let (mut g, mut degree) = ([0.0; PERIODS], 0.0);
     for i in (0..PERIODS).rev() {
-        degree = (1.0 - LOSS) * degree + 2.0 * (t[i] - CURVE[i]) / 10000.0;
+        degree = KEEP * degree + 2.0 * (t[i] - CURVE[i]) / 10000.0;
         g[i] = HEAT * degree + 2.0 * POWER * u[i];
     }
     g
@@ -59,80 +59,77 @@ fn dot(a: &Plan, b: &Plan) -> f64 {
     (sum[0] + sum[1]) + (sum[2] + sum[3])
 }
 
-/// A change of u (s) and of the residual (y).
-#[derive(Clone, Copy, Default)]
+/// A change of u (s) and of the residual (y), with 1 / (s · y).
 struct Pair {
     s: Plan,
     y: Plan,
+    rho: f64,
 }
 
 /// The L-BFGS rule: the latest pairs, the latest last.
-#[derive(Default)]
 pub struct Memory {
     last: Option<(Plan, Plan)>,
     pairs: Vec<Pair>,
+    scale: f64,
+}
+
+impl Default for Memory {
+    fn default() -> Memory {
+        Memory {
+            last: None,
+            pairs: Vec::new(),
+            scale: 1.0,
+        }
+    }
 }
 
 impl Memory {
-    /// Keeps the change since the last residual, where it shows a positive curvature.
-    fn remember(&mut self, r: &Plan, u: &Plan) {
-        if let Some((last_r, last_u)) = self.last.replace((*r, *u)) {
-            let mut pair = Pair::default();
-            for i in 0..PERIODS {
-                pair.s[i] = u[i] - last_u[i];
-                pair.y[i] = r[i] - last_r[i];
+    /// Keeps the change since the last residual at the periods that are free, where it shows a positive curvature.
+    fn remember(&mut self, free: &Plan, r: &Plan, u: &Plan) {
+        let Some((last_r, last_u)) = self.last.replace((*r, *u)) else {
+            return;
+        };
+        let (mut s, mut y) = ([0.0; PERIODS], [0.0; PERIODS]);
+        for i in 0..PERIODS {
+            s[i] = free[i] * (u[i] - last_u[i]);
+            y[i] = free[i] * (r[i] - last_r[i]);
+        }
+        let sy = dot(&s, &y);
+        if sy > 1e-10 * dot(&s, &s) {
+            self.scale = sy / dot(&y, &y);
+            if self.pairs.len() == MEMORY {
+                self.pairs.remove(0);
             }
-            if dot(&pair.s, &pair.y) > 1e-10 * dot(&pair.s, &pair.s) {
-                if self.pairs.len() == MEMORY {
-                    self.pairs.remove(0);
-                }
-                self.pairs.push(pair);
-            }
+            let rho = 1.0 / sy;
+            self.pairs.push(Pair { s, y, rho });
         }
     }
 
-    /// The residual itself where the half step lies at a bound, L-BFGS over the other periods.
+    /// The residual itself where the half step lies at a bound, L-BFGS over the periods that are free.
     pub fn direction(&mut self, forget: bool, r: &Plan, u: &Plan) -> Plan {
         if forget {
             *self = Memory::default();
         }
-        self.remember(r, u);
         let (mut free, mut d) = ([0.0; PERIODS], [0.0; PERIODS]);
         for i in 0..PERIODS {
-            free[i] = if u[i] - r[i] > 0.0 && u[i] - r[i] < 1.0 {
-                1.0
-            } else {
-                0.0
-            };
+            let half = u[i] - r[i];
+            free[i] = if half > 0.0 && half < 1.0 { 1.0 } else { 0.0 };
             d[i] = free[i] * r[i];
         }
-        let mut scale = 0.0;
-        let mut seen = Vec::new();
-        for pair in self.pairs.iter().rev() {
-            let mut y = [0.0; PERIODS];
+        self.remember(&free, r, u);
+        let mut a = Vec::new();
+        for Pair { s, y, rho } in self.pairs.iter().rev() {
+            let x = rho * dot(s, &d);
             for i in 0..PERIODS {
-                y[i] = free[i] * pair.y[i];
+                d[i] -= x * y[i];
             }
-            let sy = dot(&pair.s, &y);
-            if sy > 0.0 {
-                if scale == 0.0 {
-                    scale = sy / dot(&y, &y);
-                }
-                let a = dot(&pair.s, &d) / sy;
-                for i in 0..PERIODS {
-                    d[i] -= a * y[i];
-                }
-                seen.push((pair.s, y, sy, a));
-            }
+            a.push(x);
         }
-        if scale == 0.0 {
-            scale = 1.0;
-        }
-        d = d.map(|x| scale * x);
-        for (s, y, sy, a) in seen.iter().rev() {
-            let b = a - dot(y, &d) / sy;
+        d = d.map(|x| self.scale * x);
+        for (Pair { s, y, rho }, a) in self.pairs.iter().zip(a.iter().rev()) {
+            let b = a - rho * dot(y, &d);
             for i in 0..PERIODS {
-                d[i] += b * (free[i] * s[i]);
+                d[i] += b * s[i];
             }
         }
         for i in 0..PERIODS {
