@@ -9,10 +9,9 @@
 enum { KINDS = 14 };
 static const callbacks *volatile chosen = &quadratic;
 
-static double of_batch(double *least, double began, size_t times) {
+static void of_batch(double *least, double began, size_t times) {
   const double each = (now_ns() - began) / (double)times;
   if (each < *least) *least = each;
-  return each;
 }
 
 /* The callbacks of one solve alone, as often as they were asked, at points that stand still. */
