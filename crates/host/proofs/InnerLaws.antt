@@ -24,7 +24,7 @@ use Rattle.image.specs.Image.{solveOf, replyOf, noted, stepOf}
 use Rattle.host.specs.Exports.{strange, InnerExported}
 
 -- ---- start
-blank : Board
+pub blank : Board
 blank = record { u = []; plus = []; gradient = []; previous = []; step = []; half = []; fpr = []; direction = []; best = [] }
 
 pub begun-set : (s x y : Settings) (v u : List Float) (r : Stepped) → y ≡ x → s ≡ x → ((b : Board) → Begins s v r (setU u b)) → y ≡ r .solve .set
@@ -57,7 +57,7 @@ answered-as kind x code v us ws b b′ s z a r t h e e′ h′ g =
           (subst (λ (y : Solve). Answers (runOf y b) (replyOf kind x code) v us ws (gave r b′)) e (subst (λ (y : Reply). Answers (runOf s b) y v us ws (gave r b′)) e′ g));
     }
 
-by-kind : (o : Option Kind) → cond (waiting o) 7 6 ≡ strange o
+pub by-kind : (o : Option Kind) → cond (waiting o) 7 6 ≡ strange o
 by-kind none = refl
 by-kind (some k) = refl
 

@@ -1,1 +1,2 @@
 pub mod InnerLaws
+pub mod LoopLaws

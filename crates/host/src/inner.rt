@@ -6,10 +6,11 @@ ghost use Rattle.image.specs.Image.{settingsGiven, solveOf, stepOf};
 ghost use Rattle.host.specs.Exports.{InnerExported};
 use image::kinds::reply_of;
 use image::solve::begin;
+use image::solve::keep;
 use image::solve::refuse;
 use image::solve::settings_given;
 use image::solve::solve_of;
-use image::solve::store;
+use image::solve::tell;
 use panoc::panoc_optimizer::answer_in_place;
 use panoc::panoc_optimizer::is_waiting;
 use panoc::panoc_optimizer::points_in_place;
@@ -45,7 +46,10 @@ pub extern "C" fn pozkerrin_inner_start(
     );
     let set = settings_given(n, max_iter, limited, tolerance, has_akkt, akkt_tolerance);
     let r = start_in_place(set, at, u);
-    store(r, w, k, f)
+    let solve = r.solve;
+    let outcome = r.outcome;
+    keep(solve, w, k, f);
+    tell(outcome, w, k, f)
 }
 
 // An answer to the question of a run; a plan goes into the lent slice.
@@ -91,7 +95,10 @@ pub extern "C" fn pozkerrin_inner_answer(
         direction,
         best,
     );
-    store(r, w, k, f)
+    let solve = r.solve;
+    let outcome = r.outcome;
+    keep(solve, w, k, f);
+    tell(outcome, w, k, f)
 }
 
 // The points of the question of a run: 0, or 6 where it has ended and 8 where a slice is not as long as its point.

@@ -1,65 +1,21 @@
 -- The numbers of a lent run, there and back. Assumes nothing.
-use Prim.Native.Nat.{ℕ, _+_, _≤_}
+use Prim.Native.Nat.{ℕ}
 use mathlib.Core.Path.{_≡_, refl, sym, ap, _∙_}
-use mathlib.Core.Bool.{Bool, true, false}
+use mathlib.Core.Bool.{Bool}
 use mathlib.Core.List.{List, [], _∷_}
-use native.Mathlib.Omega.{arith}
 use lib.Ieee.{Float, nan}
 use lib.ListN.{getD}
+use Rattle.panoc_core.specs.declared.panoc_cache.AkktTolerance.{AkktTolerance}
 use Rattle.panoc_core.specs.declared.panoc_cache.ExitStatus.{ExitStatus}
-use Rattle.panoc_core.specs.declared.panoc_cache.ExitStatus.the-variants.{Converged, NotConvergedIterations, NotConvergedOutOfTime}
 use Rattle.panoc_core.specs.declared.panoc_cache.Outcome.{Outcome}
 use Rattle.panoc_core.specs.declared.panoc_cache.Outcome.the-variants.{Asked, Ended, Refused, Failed}
 use Rattle.panoc_core.specs.declared.panoc_cache.Phase.{Phase}
-use Rattle.panoc_core.specs.declared.panoc_cache.Phase.the-variants as P
 use Rattle.panoc_core.specs.declared.panoc_cache.Question.{Question}
-use Rattle.panoc_core.specs.declared.panoc_cache.Question.the-variants as Q
 use Rattle.panoc_core.specs.declared.panoc_cache.Settings.{Settings}
 use Rattle.panoc_core.specs.declared.panoc_cache.Solve.{Solve}
 use Rattle.panoc_core.specs.declared.panoc_cache.SolverStatus.{SolverStatus}
-use Rattle.panoc_core.specs.declared.panoc_cache.Stepped.{Stepped}
-use Rattle.image.specs.Image.{phaseOf, phaseNumber, statusOf, statusNumber, flagOf, flagNumber, questionOf, questionNumber, settingsOf, withNumbers, solveOf, noted, notedCount, notedEnd, outcomeOf, stepOf}
-
--- a number from k on that is not k
-pub above : (k p : ℕ) → k ≤ p → (p ≡ k → ⊥) → k + 1 ≤ p
-above k p h e = omega (arith, h, e)
-
--- ---- kinds
-pub phase-round : (p : Phase) → phaseOf (phaseNumber p) ≡ p
-phase-round P.Over = refl
-phase-round P.Cost = refl
-phase-round P.Gradient = refl
-phase-round P.Shifted = refl
-phase-round P.Project = refl
-phase-round P.HalfCost = refl
-phase-round P.DoubledProject = refl
-phase-round P.DoubledCost = refl
-phase-round P.Direction = refl
-phase-round P.FirstCost = refl
-phase-round P.FirstGradient = refl
-phase-round P.FirstProject = refl
-phase-round P.TriedCost = refl
-phase-round P.TriedGradient = refl
-phase-round P.TriedProject = refl
-phase-round P.Time = refl
-phase-round P.LastCost = refl
-
-pub status-round : (s : ExitStatus) → statusOf (statusNumber s) ≡ s
-status-round Converged = refl
-status-round NotConvergedIterations = refl
-status-round NotConvergedOutOfTime = refl
-
-pub flag-round : (b : Bool) → flagOf (flagNumber b) ≡ b
-flag-round true = refl
-flag-round false = refl
-
-pub question-round : (q : Question) → questionOf (questionNumber q) ≡ q
-question-round Q.Cost = refl
-question-round Q.Gradient = refl
-question-round Q.Project = refl
-question-round (Q.Direction true) = refl
-question-round (Q.Direction false) = refl
-question-round Q.Time = refl
+use Rattle.image.specs.Rounds.{phase-round, status-round, flag-round, akkt-round, question-round}
+use Rattle.image.specs.Image.{phaseOf, phaseNumber, statusOf, statusNumber, flagOf, flagNumber, akktOf, akktSet, akktValue, questionOf, questionNumber, settingsGiven, settingsOf, withNumbers, solveOf, noted, notedCount, notedEnd, Tells}
 
 -- ---- the small part of an inner solve
 
@@ -72,6 +28,18 @@ made s p x e b h₁ h₂ h₃ h₄ =
     ∙ ap (λ (q : ExitStatus). record { phase = s .phase; set = s .set; numbers = s .numbers; left = s .left; iterations = s .iterations; status = q; rounds = s .rounds; forget = b }) h₃
     ∙ ap (λ (q : Bool). record { phase = s .phase; set = s .set; numbers = s .numbers; left = s .left; iterations = s .iterations; status = s .status; rounds = s .rounds; forget = q }) h₄
 
+-- settings, from the numbers that stand for them
+set-made : (s : Settings) (b : Bool) (a : AkktTolerance) → b ≡ s .limited → a ≡ s .«akkt_tolerance»
+    → _≡_ {A = Settings} (record { n = s .n; «max_iter» = s .«max_iter»; limited = b; tolerance = s .tolerance; «akkt_tolerance» = a }) s
+set-made s b a h₁ h₂ =
+    ap (λ (q : Bool). record { n = s .n; «max_iter» = s .«max_iter»; limited = q; tolerance = s .tolerance; «akkt_tolerance» = a }) h₁
+    ∙ ap (λ (q : AkktTolerance). record { n = s .n; «max_iter» = s .«max_iter»; limited = s .limited; tolerance = s .tolerance; «akkt_tolerance» = q }) h₂
+
+pub set-as : (s x : Settings) (l h : ℕ) (t : Float) → l ≡ flagNumber (s .limited) → h ≡ akktSet (s .«akkt_tolerance») → t ≡ akktValue (s .«akkt_tolerance»)
+    → x ≡ settingsGiven (s .n) (s .«max_iter») l (s .tolerance) h t → x ≡ s
+set-as s x l h t e₁ e₂ e₃ g =
+    g ∙ set-made s (flagOf l) (akktOf h t) (ap flagOf e₁ ∙ flag-round (s .limited)) (ap (λ (q : ℕ). akktOf q t) e₂ ∙ ap (akktOf (akktSet (s .«akkt_tolerance»))) e₃ ∙ akkt-round (s .«akkt_tolerance»))
+
 pub kept-as : (s : Solve) (w k : List ℕ) (f f′ : List Float) (p e b : ℕ) → p ≡ phaseNumber (s .phase) → e ≡ statusNumber (s .status) → b ≡ flagNumber (s .forget)
     → f′ ≡ withNumbers (s .numbers) f → settingsOf w k f ≡ s .set
     → solveOf (p ∷ getD w 1 0 ∷ e ∷ b ∷ getD w 4 0 ∷ getD w 5 0 ∷ []) (s .left ∷ s .iterations .0 ∷ s .rounds ∷ getD k 3 0 ∷ getD k 4 0 ∷ getD k 5 0 ∷ []) f′ ≡ s
@@ -79,10 +47,7 @@ kept-as s w k f f′ p e b h₁ h₂ h₃ h₄ h₅ =
     ap (λ (l : List Float). solveOf (p ∷ getD w 1 0 ∷ e ∷ b ∷ getD w 4 0 ∷ getD w 5 0 ∷ []) (s .left ∷ s .iterations .0 ∷ s .rounds ∷ getD k 3 0 ∷ getD k 4 0 ∷ getD k 5 0 ∷ []) l) h₄
     ∙ made s (phaseOf p) (settingsOf w k f) (statusOf e) (flagOf b) (ap phaseOf h₁ ∙ phase-round (s .phase)) h₅ (ap statusOf h₂ ∙ status-round (s .status)) (ap flagOf h₃ ∙ flag-round (s .forget))
 
--- what a call tells leaves the small part
-abbrev Tells : Outcome → ℕ → List ℕ → List ℕ → List Float → List ℕ → List ℕ → List Float → Type 0
-Tells o r w k f w′ k′ f′ = (solveOf w′ k′ f′ ≡ solveOf w k f) × (outcomeOf r w′ k′ f′ ≡ o)
-
+-- ---- what a call tells
 pub asked-as : (o : Outcome) (q : Question) (m : ℕ) (w w′ k : List ℕ) (f : List Float) → o ≡ Asked q → m ≡ questionNumber q → w′ ≡ noted m w → Tells o 0 w k f w′ k f
 asked-as o q m w w′ k f h e n = rw (n, h) (refl, ap Asked (ap questionOf e ∙ question-round q))
 
@@ -97,8 +62,3 @@ refused-as o m w w′ k f h n = rw (n, h) (refl, refl)
 
 pub failed-as : (o : Outcome) (m : ℕ) (w w′ k : List ℕ) (f : List Float) → o ≡ Failed m → w′ ≡ noted m w → Tells o 3 w k f w′ k f
 failed-as o m w w′ k f h n = rw (n, h) (refl, refl)
-
--- what a call gave is stored
-pub stored-as : (s : Stepped) (r : ℕ) (w w′ k k′ : List ℕ) (f f′ : List Float) → solveOf w k f ≡ s .solve → Tells (s .outcome) r w k f w′ k′ f′ → stepOf r w′ k′ f′ ≡ s
-stored-as s r w w′ k k′ f f′ h t =
-    ap (λ (o : Outcome). record { outcome = o; solve = solveOf w′ k′ f′ }) (t .1) ∙ ap (λ (z : Solve). record { outcome = s .outcome; solve = z }) (t .0 ∙ h)

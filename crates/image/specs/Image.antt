@@ -1,9 +1,10 @@
 -- What the numbers of a lent run stand for. Definitions only.
 use Prim.Native.Nat.{ℕ}
+use mathlib.Core.Path.{_≡_}
 use mathlib.Core.Bool.{Bool, true, false, not, cond}
 use mathlib.Core.List.{List, [], _∷_}
 use lib.Dec.{eqb}
-use lib.Ieee.{Float, nan}
+use lib.Ieee.{Float, binary64, nan, ofBits}
 use lib.ListN.{getD}
 use Rattle.panoc_core.specs.declared.panoc_cache.AkktTolerance.{AkktTolerance}
 use Rattle.panoc_core.specs.declared.panoc_cache.AkktTolerance.the-variants.{Missing, Set}
@@ -75,6 +76,14 @@ flagNumber b = cond b 1 0
 abbrev pub akktOf : ℕ → Float → AkktTolerance
 akktOf set t = cond (eqb set 0) Missing (Set t)
 
+abbrev pub akktSet : AkktTolerance → ℕ
+akktSet Missing = 0
+akktSet (Set t) = 1
+
+abbrev pub akktValue : AkktTolerance → Float
+akktValue Missing = ofBits binary64 0
+akktValue (Set t) = t
+
 -- the questions; DIRECTION has two numbers, the second where it says to forget
 abbrev pub questionOf : ℕ → Question
 questionOf m = getD (Q.Cost ∷ Q.Gradient ∷ Q.Project ∷ Q.Direction false ∷ Q.Direction true ∷ []) m Q.Time
@@ -138,6 +147,10 @@ outcomeOf r w k f = getD (Asked (questionOf (getD w 1 0)) ∷ Ended (statusAt w 
 
 abbrev pub stepOf : ℕ → List ℕ → List ℕ → List Float → Stepped
 stepOf r w k f = record { outcome = outcomeOf r w k f; solve = solveOf w k f }
+
+-- from w, k and f to w′, k′ and f′: the small part stays, and o is told
+abbrev pub Tells : Outcome → ℕ → List ℕ → List ℕ → List Float → List ℕ → List ℕ → List Float → Type 0
+Tells o r w k f w′ k′ f′ = (solveOf w′ k′ f′ ≡ solveOf w k f) × (outcomeOf r w′ k′ f′ ≡ o)
 
 -- ---- the lent numbers with some of them replaced
 abbrev pub withNumbers : Numbers → List Float → List Float

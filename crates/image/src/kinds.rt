@@ -1,6 +1,6 @@
 // Enums as numbers. Any number is read.
 ghost use mathlib.Core.Path.{_≡_};
-ghost use Rattle.image.specs.Image.{phaseOf, phaseNumber, statusOf, statusNumber, flagOf, flagNumber, akktOf, questionNumber, replyOf};
+ghost use Rattle.image.specs.Image.{phaseOf, phaseNumber, statusOf, statusNumber, flagOf, flagNumber, akktOf, akktSet, akktValue, questionNumber, replyOf};
 use panoc_core::panoc_cache::AkktTolerance;
 use panoc_core::panoc_cache::ExitStatus;
 use panoc_core::panoc_cache::Phase;
@@ -99,6 +99,24 @@ pub fn akkt_of(set: u32, t: f64) -> AkktTolerance
         AkktTolerance::Missing
     } else {
         AkktTolerance::Set(t)
+    }
+}
+
+pub fn akkt_set(a: AkktTolerance) -> u32
+    ensures { λ r. ⌜ r ≡ akktSet a ⌝ }
+{
+    match a {
+        AkktTolerance::Missing => 0,
+        AkktTolerance::Set(_) => 1,
+    }
+}
+
+pub fn akkt_value(a: AkktTolerance) -> f64
+    ensures { λ r. ⌜ r ≡ akktValue a ⌝ }
+{
+    match a {
+        AkktTolerance::Missing => 0.0,
+        AkktTolerance::Set(t) => t,
     }
 }
 

@@ -1,8 +1,10 @@
 // The small part of an inner solve in three lent arrays: w, k and f, laid out as specs/Image.antt says.
 ghost use mathlib.Core.Path.{_≡_};
 ghost use mathlib.Core.Bool.{cond};
-ghost use Rattle.image.specs.Image.{settingsGiven, settingsOf, numbersOf, withNumbers, solveOf, noted, notedCount, notedEnd, outcomeOf, stepOf};
+ghost use Rattle.image.specs.Image.{settingsGiven, settingsOf, numbersOf, withNumbers, solveOf, noted, notedCount, notedEnd, Tells};
 use crate::kinds::akkt_of;
+use crate::kinds::akkt_set;
+use crate::kinds::akkt_value;
 use crate::kinds::flag_number;
 use crate::kinds::flag_of;
 use crate::kinds::phase_number;
@@ -15,7 +17,6 @@ use panoc_core::panoc_cache::Numbers;
 use panoc_core::panoc_cache::Outcome;
 use panoc_core::panoc_cache::Settings;
 use panoc_core::panoc_cache::Solve;
-use panoc_core::panoc_cache::Stepped;
 
 // The settings of a start, from its numbers.
 pub fn settings_given(
@@ -111,6 +112,27 @@ pub fn begin(
     ];
 }
 
+// The settings of a solve into the lent numbers; the rest is put at 0.
+pub fn keep_settings(set: Settings, w: &mut [u32; 6], k: &mut [usize; 6], f: &mut [f64; 13])
+    ensures { λ _. ⌜ settingsOf (now (w .exit)) (now (k .exit)) (now (f .exit)) ≡ set ⌝ }
+{
+    let akkt = set.akkt_tolerance;
+    let limited = flag_number(set.limited);
+    let has = akkt_set(akkt);
+    let value = akkt_value(akkt);
+    begin(
+        set.n,
+        set.max_iter,
+        limited,
+        set.tolerance,
+        has,
+        value,
+        w,
+        k,
+        f,
+    );
+}
+
 // The running numbers into f.
 fn keep_numbers(x: Numbers, f: &mut [f64; 13])
     ensures { λ _. ⌜ now (f .exit) ≡ withNumbers x (now (f .entry)) ⌝ }
@@ -136,8 +158,8 @@ fn keep_numbers(x: Numbers, f: &mut [f64; 13])
     ];
 }
 
-// The small part of a run under the settings that the lent numbers have.
-fn keep(s: Solve, w: &mut [u32; 6], k: &mut [usize; 6], f: &mut [f64; 13])
+// The small part of a run, into lent numbers that have its settings.
+pub fn keep(s: Solve, w: &mut [u32; 6], k: &mut [usize; 6], f: &mut [f64; 13])
     requires { ⌜ settingsOf (now w) (now k) (now f) ≡ s .set ⌝ }
     ensures { λ _. ⌜ solveOf (now (w .exit)) (now (k .exit)) (now (f .exit)) ≡ s ⌝ }
 {
@@ -204,9 +226,9 @@ pub fn note_end(iterations: usize, norm: f64, cost: f64, k: &mut [usize; 6], f: 
     ];
 }
 
-// What a call has told; its kind is the result.
-fn tell(o: Outcome, w: &mut [u32; 6], k: &mut [usize; 6], f: &mut [f64; 13]) -> u32
-    ensures { λ r. ⌜ (solveOf (now (w .exit)) (now (k .exit)) (now (f .exit)) ≡ solveOf (now (w .entry)) (now (k .entry)) (now (f .entry))) × (outcomeOf r (now (w .exit)) (now (k .exit)) (now (f .exit)) ≡ o) ⌝ }
+// What a call has told, into the lent numbers; its kind is the result.
+pub fn tell(o: Outcome, w: &mut [u32; 6], k: &mut [usize; 6], f: &mut [f64; 13]) -> u32
+    ensures { λ r. ⌜ Tells o r (now (w .entry)) (now (k .entry)) (now (f .entry)) (now (w .exit)) (now (k .exit)) (now (f .exit)) ⌝ }
 {
     match o {
         Outcome::Asked(q) => {
@@ -229,17 +251,6 @@ fn tell(o: Outcome, w: &mut [u32; 6], k: &mut [usize; 6], f: &mut [f64; 13]) -> 
             3
         }
     }
-}
-
-// What a call in place gave, into the lent numbers, which have its settings; the outcome's kind.
-pub fn store(r: Stepped, w: &mut [u32; 6], k: &mut [usize; 6], f: &mut [f64; 13]) -> u32
-    requires { ⌜ settingsOf (now w) (now k) (now f) ≡ r .solve .set ⌝ }
-    ensures { λ c. ⌜ stepOf c (now (w .exit)) (now (k .exit)) (now (f .exit)) ≡ r ⌝ }
-{
-    let solve = r.solve;
-    let outcome = r.outcome;
-    keep(solve, w, k, f);
-    tell(outcome, w, k, f)
 }
 
 // The number by which an answer of no kind is refused: 7 where the run waits, else 6.

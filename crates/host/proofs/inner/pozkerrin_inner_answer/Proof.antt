@@ -1,3 +1,4 @@
+use Rattle.image.specs.Stored.{stored-as}
 use Rattle.host.proofs.InnerLaws.{answered-set, answered-as, malformed-as}
 use borrow.Author.Needs.{needs}
 use Rattle.host.proofs.inner.pozkerrin_inner_answer.Statement.{statement}
@@ -21,14 +22,17 @@ reply-of-requires c κs = search needs
 answer-in-place-requires : tie.Need-answer-in-place-requires
 answer-in-place-requires c κs = search needs
 
-store-requires : tie.Need-store-requires
-store-requires c κs = answered-set _ _ _ _ _ _ _ _ _ (c .before .before .before .before .before .before .before .before .before .before .before .before .before .before .before .before .before .before .solve-of .ensures) (c .before .before .before .before .before .answer-in-place .ensures)
+keep-requires : tie.Need-keep-requires
+keep-requires c κs = answered-set _ _ _ _ _ _ _ _ _ (c .before .before .before .before .before .before .before .before .before .before .before .before .before .before .before .before .before .before .before .solve-of .ensures) (c .before .before .before .before .before .before .answer-in-place .ensures)
+
+tell-requires : tie.Need-tell-requires
+tell-requires c κs = search needs
 
 same-length : tie.Need-same-length
 same-length c = search needs
 
 returns-2 : tie.Need-returns-2
-returns-2 c = answered-as _ _ _ _ _ _ _ _ _ _ _ _ _ (c .before .before .before .before .before .before .before .before .before .before .before .before .before .before .before .before .before .before .if1 .left) (c .before .before .before .before .before .before .before .before .before .before .before .before .before .before .before .before .before .before .before .solve-of .ensures) (c .before .before .before .before .before .before .before .before .before .before .before .before .before .before .before .before .before .reply-of .ensures) (c .store .ensures) (c .before .before .before .before .before .before .answer-in-place .ensures)
+returns-2 c = answered-as _ _ _ _ _ _ _ _ _ _ _ _ _ (c .before .before .before .before .before .before .before .before .before .before .before .before .before .before .before .before .before .before .before .before .before .before .before .if1 .left) (c .before .before .before .before .before .before .before .before .before .before .before .before .before .before .before .before .before .before .before .before .before .before .before .before .solve-of .ensures) (c .before .before .before .before .before .before .before .before .before .before .before .before .before .before .before .before .before .before .before .before .before .before .reply-of .ensures) (stored-as (c .before .before .before .before .before .before .before .before .before .before .before .answer-in-place .result) (c .tell .result) (c .before .before .before .before .keep .last .1 .0) (c .tell .last .1 .0) (c .before .before .before .before .keep .last .1 .1 .0) (c .tell .last .1 .1 .0) (c .before .before .before .before .keep .last .1 .1 .1 .0) (c .tell .last .1 .1 .1 .0) (c .before .before .before .before .keep .ensures) (c .tell .ensures)) (c .before .before .before .before .before .before .before .before .before .before .before .answer-in-place .ensures)
 
 pub pozkerrin-inner-answer-spec : {M : Type 1} → statement M
 pozkerrin-inner-answer-spec =
@@ -40,6 +44,7 @@ pozkerrin-inner-answer-spec =
     returns
     reply-of-requires
     answer-in-place-requires
-    store-requires
+    keep-requires
+    tell-requires
     same-length
     returns-2)

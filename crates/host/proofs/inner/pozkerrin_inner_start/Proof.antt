@@ -1,3 +1,4 @@
+use Rattle.image.specs.Stored.{stored-as}
 use Rattle.host.proofs.InnerLaws.{begun-set, begins-as}
 use borrow.Author.Needs.{needs}
 use Rattle.host.proofs.inner.pozkerrin_inner_start.Statement.{statement}
@@ -12,11 +13,14 @@ settings-given-requires c κs = search needs
 start-in-place-requires : tie.Need-start-in-place-requires
 start-in-place-requires c κs = search needs
 
-store-requires : tie.Need-store-requires
-store-requires c κs = begun-set _ _ _ _ _ _ (c .before .before .before .before .before .before .begin .ensures) (c .before .before .before .before .before .settings-given .ensures) (c .before .before .before .start-in-place .ensures)
+keep-requires : tie.Need-keep-requires
+keep-requires c κs = begun-set _ _ _ _ _ _ (c .before .before .before .before .before .before .before .begin .ensures) (c .before .before .before .before .before .before .settings-given .ensures) (c .before .before .before .before .start-in-place .ensures)
+
+tell-requires : tie.Need-tell-requires
+tell-requires c κs = search needs
 
 returns : tie.Need-returns
-returns c = begins-as _ _ _ _ _ _ (c .before .before .before .before .before .before .settings-given .ensures) (c .store .ensures) (c .before .before .before .before .start-in-place .ensures)
+returns c = begins-as _ _ _ _ _ _ (c .before .before .before .before .before .before .before .before .before .before .before .settings-given .ensures) (stored-as (c .before .before .before .before .before .before .before .before .before .start-in-place .result) (c .tell .result) (c .before .before .before .before .keep .last .1 .0) (c .tell .last .1 .0) (c .before .before .before .before .keep .last .1 .1 .0) (c .tell .last .1 .1 .0) (c .before .before .before .before .keep .last .1 .1 .1 .0) (c .tell .last .1 .1 .1 .0) (c .before .before .before .before .keep .ensures) (c .tell .ensures)) (c .before .before .before .before .before .before .before .before .before .start-in-place .ensures)
 
 pub pozkerrin-inner-start-spec : {M : Type 1} → statement M
 pozkerrin-inner-start-spec =
@@ -25,5 +29,6 @@ pozkerrin-inner-start-spec =
     begin-requires
     settings-given-requires
     start-in-place-requires
-    store-requires
+    keep-requires
+    tell-requires
     returns)

@@ -1,4 +1,4 @@
-use Rattle.image.proofs.Laws.{above}
+use Rattle.image.specs.Rounds.{above}
 use Rattle.image.specs.Image.{phases}
 use native.Mathlib.Omega.{arith}
 use lib.ListN.{List·getD-eq-default}

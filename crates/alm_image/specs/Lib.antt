@@ -1,0 +1,2 @@
+pub mod AlmImage
+pub mod AlmStored

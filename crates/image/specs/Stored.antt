@@ -1,0 +1,13 @@
+-- What a call gave is what the lent numbers stand for, once it is kept and told. Assumes nothing.
+use Prim.Native.Nat.{ℕ}
+use mathlib.Core.Path.{_≡_, ap, _∙_}
+use mathlib.Core.List.{List}
+use lib.Ieee.{Float}
+use Rattle.panoc_core.specs.declared.panoc_cache.Outcome.{Outcome}
+use Rattle.panoc_core.specs.declared.panoc_cache.Solve.{Solve}
+use Rattle.panoc_core.specs.declared.panoc_cache.Stepped.{Stepped}
+use Rattle.image.specs.Image.{solveOf, stepOf, Tells}
+
+pub stored-as : (s : Stepped) (r : ℕ) (w w′ k k′ : List ℕ) (f f′ : List Float) → solveOf w k f ≡ s .solve → Tells (s .outcome) r w k f w′ k′ f′ → stepOf r w′ k′ f′ ≡ s
+stored-as s r w w′ k k′ f f′ h t =
+    ap (λ (o : Outcome). record { outcome = o; solve = solveOf w′ k′ f′ }) (t .1) ∙ ap (λ (z : Solve). record { outcome = s .outcome; solve = z }) (t .0 ∙ h)
