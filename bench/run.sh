@@ -88,7 +88,7 @@ echo "Bytes of the archive: $(stat -c %s "$archive"); of its code and constants:
 echo
 echo "### By-value calls inside Rattle"
 echo
-if [ -x bench/values.sh ]; then bash bench/values.sh; else echo "Not measured yet."; fi
+bash bench/values.sh
 echo
 echo "### The root"
 echo
