@@ -1,2 +1,3 @@
 pub mod InnerLaws
 pub mod LoopLaws
+pub mod PsiLaws

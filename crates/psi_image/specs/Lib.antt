@@ -1,0 +1,2 @@
+pub mod PsiImage
+pub mod PsiStored
