@@ -23,10 +23,10 @@ double projected_gradient(const double *u) {
 static double reached; /* the library's projected gradient, which the others are to reach */
 static size_t asked[KINDS];
 
-static void by_library(double *u, double tolerance, evaluations *e) {
+static void by_library(double *u, double tolerance, size_t memory, evaluations *e) {
   task t = kiln_task();
   result r;
-  (void)tolerance;
+  (void)tolerance, (void)memory;
   memset(asked, 0, sizeof asked);
   library_inner(&kiln, &t, &r, e ? asked : NULL);
   if (e) e->costs = asked[PKR_COST], e->gradients = asked[PKR_GRADIENT];
@@ -34,11 +34,11 @@ static void by_library(double *u, double tolerance, evaluations *e) {
 }
 
 #ifdef HAVE_RUST
-static void by_rust(double *u, double tolerance, evaluations *e) {
+static void by_rust(double *u, double tolerance, size_t memory, evaluations *e) {
   static void *cache;
   task t = kiln_task();
   result r;
-  (void)tolerance;
+  (void)tolerance, (void)memory;
   if (!cache) cache = rust_inner_new(&t);
   rust_inner(cache, &kiln, &t, &r);
   if (e) e->costs = asked[PKR_COST], e->gradients = asked[PKR_GRADIENT];
@@ -46,16 +46,18 @@ static void by_rust(double *u, double tolerance, evaluations *e) {
 }
 #endif
 #ifdef HAVE_DLIB
-static void by_dlib(double *u, double tolerance, evaluations *e) {
+static void by_dlib(double *u, double tolerance, size_t memory, evaluations *e) {
   (void)tolerance;
-  dlib_plan(u, reached, e);
+  dlib_plan(u, reached, memory, e);
 }
 #endif
 
 typedef struct {
   const char *name;
-  void (*plan)(double *u, double tolerance, evaluations *e);
-  int by_cost; /* stops by a tolerance on the cost */
+  void (*plan)(double *u, double tolerance, size_t memory, evaluations *e);
+  int by_cost;    /* stops by a tolerance on the cost */
+  int has_memory; /* may choose how many pairs it keeps */
+  size_t memory;
   double tolerance, ns, plans[N];
   evaluations e;
 } solver;
@@ -66,10 +68,10 @@ static solver solvers[] = {
     {.name = "the original Rust, same rule", .plan = by_rust},
 #endif
 #ifdef HAVE_DLIB
-    {.name = "dlib `find_min_box_constrained`, L-BFGS", .plan = by_dlib},
+    {.name = "dlib `find_min_box_constrained`, L-BFGS", .plan = by_dlib, .has_memory = 1},
 #endif
 #ifdef HAVE_NLOPT
-    {.name = "NLopt `LD_LBFGS`", .plan = nlopt_lbfgs_plan, .by_cost = 1},
+    {.name = "NLopt `LD_LBFGS`", .plan = nlopt_lbfgs_plan, .by_cost = 1, .has_memory = 1},
     {.name = "NLopt `LD_SLSQP`", .plan = nlopt_slsqp_plan, .by_cost = 1},
 #endif
 };
@@ -83,18 +85,53 @@ static void start(double *u) {
 static double once(solver *s) {
   memset(&s->e, 0, sizeof s->e);
   start(s->plans);
-  s->plan(s->plans, s->tolerance, &s->e);
+  s->plan(s->plans, s->tolerance, s->memory, &s->e);
   return projected_gradient(s->plans);
+}
+
+/* The time of one plan. */
+static double timed(const solver *s) {
+  double u[N];
+  evaluations e = {0, 0};
+  start(u);
+  const double began = now_ns();
+  s->plan(u, s->tolerance, s->memory, s == solvers ? NULL : &e);
+  return now_ns() - began;
+}
+
+/* The loosest tolerance by which the library's accuracy is reached, or else the tightest that is tried. */
+static void fit(solver *s) {
+  s->tolerance = 1e-6;
+  while (once(s) > reached && s->by_cost && s->tolerance > 1e-17) s->tolerance /= 10;
+}
+
+/* The number of pairs with which it is quickest. */
+static void choose_memory(solver *s) {
+  static const size_t tried[] = {4, 6, 8, 10, 12, 16, 20, 24};
+  double least = 1e30;
+  size_t best = tried[0];
+  for (size_t i = 0; i < sizeof tried / sizeof *tried; i++) {
+    double ns = 1e30;
+    s->memory = tried[i];
+    fit(s);
+    if (projected_gradient(s->plans) > reached) continue;
+    for (size_t j = 0; j < 100; j++) {
+      const double took = timed(s);
+      if (took < ns) ns = took;
+    }
+    if (ns < least) least = ns, best = tried[i];
+  }
+  s->memory = best;
 }
 
 int main(int words, char **word) {
   const size_t rounds = words > 1 ? strtoul(word[1], NULL, 10) : 2000;
   double least = 1e30;
   reached = once(&solvers[0]);
+  solvers[0].memory = KILN_MEMORY;
   for (size_t i = 1; i < SOLVERS; i++) {
-    /* the loosest tolerance by which the library's accuracy is reached, or else the tightest that is tried */
-    solvers[i].tolerance = 1e-6;
-    while (once(&solvers[i]) > reached && solvers[i].by_cost && solvers[i].tolerance > 1e-17) solvers[i].tolerance /= 10;
+    if (solvers[i].has_memory) choose_memory(&solvers[i]);
+    fit(&solvers[i]);
   }
 #ifdef HAVE_RUST
   if (memcmp(solvers[0].plans, solvers[1].plans, sizeof solvers[0].plans) != 0) {
@@ -108,21 +145,18 @@ int main(int words, char **word) {
   }
   for (size_t j = 0; j < rounds; j++) {
     for (size_t i = 0; i < SOLVERS; i++) {
-      double u[N];
-      evaluations e = {0, 0};
-      start(u);
-      const double began = now_ns();
-      solvers[i].plan(u, solvers[i].tolerance, i < 1 ? NULL : &e);
-      const double took = now_ns() - began;
+      const double took = timed(&solvers[i]);
       if (took < solvers[i].ns) solvers[i].ns = took;
     }
   }
-  puts("| solver | µs a plan | against the C library | projected gradient | cost above the least | costs, gradients |");
-  puts("|---|---|---|---|---|---|");
+  puts("| solver | µs a plan | against the C library | projected gradient | cost above the least | costs, gradients | pairs kept |");
+  puts("|---|---|---|---|---|---|---|");
   for (size_t i = 0; i < SOLVERS; i++) {
     const solver *s = &solvers[i];
-    printf("| %s | %.1f | %.2f | %.1e | %.1e | %zu, %zu |\n", s->name, s->ns / 1000, s->ns / solvers[0].ns, projected_gradient(s->plans),
+    printf("| %s | %.1f | %.2f | %.1e | %.1e | %zu, %zu | ", s->name, s->ns / 1000, s->ns / solvers[0].ns, projected_gradient(s->plans),
         kiln_cost(s->plans) - least, s->e.costs, s->e.gradients);
+    if (s->has_memory || s->plan == by_library) printf("%zu |\n", s->memory);
+    else puts("|");
   }
   return 0;
 }

@@ -1,4 +1,4 @@
-// dlib's box-constrained L-BFGS, with the memory of the kiln's own rule. Its own loops are quicker on 24 numbers than calls of a BLAS.
+// dlib's box-constrained L-BFGS. Its own loops are quicker on 24 numbers than calls of a BLAS.
 #include <dlib/optimization.h>
 
 #include "../../crates/host/examples/kiln_model.h"
@@ -27,7 +27,7 @@ class at_projected_gradient {
 };
 }  // namespace
 
-extern "C" void dlib_plan(double *u, double norm, evaluations *e) {
+extern "C" void dlib_plan(double *u, double norm, size_t memory, evaluations *e) {
   column at, lower, upper;
   for (long i = 0; i < KILN_PERIODS; i++) at(i) = u[i];
   lower = 0;
@@ -42,6 +42,6 @@ extern "C" void dlib_plan(double *u, double norm, evaluations *e) {
     kiln_gradient(&x(0), &g(0));
     return g;
   };
-  dlib::find_min_box_constrained(dlib::lbfgs_search_strategy(KILN_MEMORY), at_projected_gradient(norm), cost, gradient, at, lower, upper);
+  dlib::find_min_box_constrained(dlib::lbfgs_search_strategy(memory), at_projected_gradient(norm), cost, gradient, at, lower, upper);
   for (long i = 0; i < KILN_PERIODS; i++) u[i] = at(i);
 }

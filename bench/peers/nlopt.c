@@ -15,7 +15,7 @@ static double both(unsigned n, const double *u, double *g, void *data) {
   return kiln_cost(u);
 }
 
-static void plan(nlopt_opt *made, nlopt_algorithm algorithm, double *u, double tolerance, evaluations *e) {
+static void plan(nlopt_opt *made, nlopt_algorithm algorithm, double *u, double tolerance, size_t memory, evaluations *e) {
   static evaluations *counted;
   double cost;
   counted = e;
@@ -25,18 +25,18 @@ static void plan(nlopt_opt *made, nlopt_algorithm algorithm, double *u, double t
     nlopt_set_lower_bounds1(*made, 0);
     nlopt_set_upper_bounds1(*made, 1);
     nlopt_set_maxeval(*made, 5000);
-    if (algorithm == NLOPT_LD_LBFGS) nlopt_set_vector_storage(*made, KILN_MEMORY);
   }
+  nlopt_set_vector_storage(*made, (unsigned)memory);
   nlopt_set_ftol_rel(*made, tolerance);
   nlopt_optimize(*made, u, &cost);
 }
 
-void nlopt_lbfgs_plan(double *u, double tolerance, evaluations *e) {
+void nlopt_lbfgs_plan(double *u, double tolerance, size_t memory, evaluations *e) {
   static nlopt_opt made;
-  plan(&made, NLOPT_LD_LBFGS, u, tolerance, e);
+  plan(&made, NLOPT_LD_LBFGS, u, tolerance, memory, e);
 }
 
-void nlopt_slsqp_plan(double *u, double tolerance, evaluations *e) {
+void nlopt_slsqp_plan(double *u, double tolerance, size_t memory, evaluations *e) {
   static nlopt_opt made;
-  plan(&made, NLOPT_LD_SLSQP, u, tolerance, e);
+  plan(&made, NLOPT_LD_SLSQP, u, tolerance, memory, e);
 }

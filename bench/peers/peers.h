@@ -13,10 +13,10 @@ typedef struct {
 /* The norm of u - P(u - gradient): what all solvers are held to. */
 double projected_gradient(const double *u);
 
-void dlib_plan(double *u, double norm, evaluations *e);
+void dlib_plan(double *u, double norm, size_t memory, evaluations *e);
 /* By its tolerance on the cost, as it has no test of the projected gradient. */
-void nlopt_lbfgs_plan(double *u, double tolerance, evaluations *e);
-void nlopt_slsqp_plan(double *u, double tolerance, evaluations *e);
+void nlopt_lbfgs_plan(double *u, double tolerance, size_t memory, evaluations *e);
+void nlopt_slsqp_plan(double *u, double tolerance, size_t memory, evaluations *e);
 
 #ifdef __cplusplus
 }
