@@ -5,18 +5,23 @@ ghost use Rattle.alm_core.specs.Board.{setU, setY, setYPlus};
 ghost use Rattle.alm.specs.LoopCalls.{Begins, Points, before, after, runOf, gave};
 ghost use Rattle.alm.specs.LoopPoints.{asked};
 ghost use Rattle.alm_image.specs.AlmImage.{settingsGiven, almOf, stepOf};
-ghost use Rattle.host.specs.Exports.{LoopExported};
-use alm::alm_optimizer::answer_in_place;
+ghost use Rattle.host_loop.specs.Exports.{Exported};
+use crate::answers::answer_inner;
+use crate::answers::answer_own;
+use crate::answers::fits;
+use crate::answers::waits;
 use alm::alm_optimizer::start_in_place;
-use alm::alm_points::is_waiting;
 use alm::alm_points::points_in_place;
 use alm_image::alm::alm_of;
 use alm_image::alm::begin;
 use alm_image::alm::keep_alm;
 use alm_image::alm::settings_given;
 use alm_image::alm::tell_alm;
+use alm_image::waiting::wants;
 use image::kinds::reply_of;
+use image::solve::note;
 use image::solve::refuse;
+use panoc_core::refusals::refusal;
 
 // A run that is begun at the lent slices, or its refusal.
 #[no_mangle]
@@ -119,36 +124,64 @@ pub extern "C" fn pozkerrin_loop_answer(
     plus: &mut [f64; 64],
     f1: &mut [f64; 64],
 ) -> u32
-    ensures { λ r. ⌜ LoopExported kind x code (now (v .entry)) (now (plan .entry)) (now (plan .exit)) (now (xi .entry)) (now (xi .exit)) (runOf (almOf (now (w .entry)) (now (k .entry)) (now (f .entry)) (now (lw .entry)) (now (lk .entry)) (now (lf .entry))) (before u candidate gradient previous step half fpr direction best y plus f1)) (gave (stepOf r (now (w .exit)) (now (k .exit)) (now (f .exit)) (now (lw .exit)) (now (lk .exit)) (now (lf .exit))) (after u candidate gradient previous step half fpr direction best y plus f1)) ⌝ }
+    ensures { λ r. ⌜ Exported kind x code (now (v .entry)) (now (plan .entry)) (now (plan .exit)) (now (xi .entry)) (now (xi .exit)) (runOf (almOf (now (w .entry)) (now (k .entry)) (now (f .entry)) (now (lw .entry)) (now (lk .entry)) (now (lf .entry))) (before u candidate gradient previous step half fpr direction best y plus f1)) (gave (stepOf r (now (w .exit)) (now (k .exit)) (now (f .exit)) (now (lw .exit)) (now (lk .exit)) (now (lf .exit))) (after u candidate gradient previous step half fpr direction best y plus f1)) ⌝ }
 {
-    let s = alm_of(w, k, f, lw, lk, lf);
+    let wanted = wants(w, k, f, lw, lk, lf);
     if 4 < kind {
-        return refuse(is_waiting(s), w);
+        return refuse(waits(wanted), w);
     }
     let a = reply_of(kind, x, code);
-    let r = answer_in_place(
-        s,
-        a,
-        v,
-        plan,
-        xi,
-        u,
-        candidate,
-        gradient,
-        previous,
-        step,
-        half,
-        fpr,
-        direction,
-        best,
-        y,
-        plus,
-        f1,
-    );
-    let alm = r.alm;
-    let outcome = r.outcome;
-    keep_alm(alm, w, k, f, lw, lk, lf);
-    tell_alm(outcome, w, k, f, lk, lf)
+    let fits = fits(lk, plan.len(), xi.len());
+    let number = refusal(wanted, a, v.len(), fits);
+    if number != 0 {
+        note(number, w);
+        return 2;
+    }
+    if lw[0] == 3 {
+        answer_inner(
+            w,
+            k,
+            f,
+            lw,
+            lk,
+            lf,
+            a,
+            v,
+            plan,
+            xi,
+            u,
+            candidate,
+            gradient,
+            previous,
+            step,
+            half,
+            fpr,
+            direction,
+            best,
+            y,
+            plus,
+            f1,
+        )
+    } else {
+        answer_own(
+            w,
+            k,
+            f,
+            lw,
+            lk,
+            lf,
+            a,
+            v,
+            plan,
+            xi,
+            u,
+            candidate,
+            best,
+            y,
+            plus,
+            f1,
+        )
+    }
 }
 
 // The points of the question of a run: 0, or 6 where it has ended and 8 where a slice is not as long as its point.

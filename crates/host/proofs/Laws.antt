@@ -3,11 +3,9 @@ use Prim.Native.Nat.{ℕ, zero, suc, _≤_, _<_}
 use mathlib.Core.Path.{_≡_, refl, sym, ap, _∙_, subst}
 use mathlib.Core.Bool.{Bool, cond}
 use mathlib.Core.List.{List, []}
-use mathlib.Core.Option.{Option, none, some}
 use native.Mathlib.Omega.{arith}
 use lib.Ieee.{Float}
 use lib.ListN.{length}
-use Rattle.model.specs.Process.{Kind}
 use Rattle.model.specs.Refusals.{wanted}
 use Rattle.panoc_core.specs.declared.panoc_cache.Answered.{Answered}
 use Rattle.panoc_core.specs.declared.panoc_cache.Outcome.the-variants.{Refused}
@@ -20,11 +18,12 @@ use Rattle.panoc_core.specs.Rest.{rest}
 use Rattle.panoc_core.specs.Board.{Board, Begins, runOf, gave, setU, waiting, wantedOf}
 use Rattle.panoc_core.specs.Wanted.{wanted-is}
 use Rattle.panoc.specs.Calls.{Answers, Points, refusal}
-use Rattle.image.specs.Image.{solveOf, replyOf, noted, stepOf}
-use Rattle.host.specs.Exports.{strange, InnerExported}
+use Rattle.image.specs.Image.{solveOf, replyOf, strange, noted, stepOf}
+use Rattle.image.specs.Rounds.{strange-round}
+use Rattle.host.specs.Exports.{Exported}
 
 -- ---- start
-pub blank : Board
+blank : Board
 blank = record { u = []; plus = []; gradient = []; previous = []; step = []; half = []; fpr = []; direction = []; best = [] }
 
 pub begun-set : (s x y : Settings) (v u : List Float) (r : Stepped) → y ≡ x → s ≡ x → ((b : Board) → Begins s v r (setU u b)) → y ≡ r .solve .set
@@ -48,7 +47,7 @@ pub answered-set : (s z : Solve) (a : Reply) (v us ws : List Float) (b b′ : Bo
 answered-set s z a v us ws b b′ r e g = ap (λ (q : Solve). q .set) (sym e) ∙ sym (settings-stay (runOf s b) a v us ws (gave r b′) g)
 
 pub answered-as : (kind : ℕ) (x : Float) (code : ℕ) (v us ws : List Float) (b b′ : Board) (s z : Solve) (a : Reply) (r t : Stepped) → kind ≤ 4 → s ≡ z → a ≡ replyOf kind x code → t ≡ r
-    → Answers (runOf s b) a v us ws (gave r b′) → InnerExported kind x code v us ws (runOf z b) (gave t b′)
+    → Answers (runOf s b) a v us ws (gave r b′) → Exported kind x code v us ws (runOf z b) (gave t b′)
 answered-as kind x code v us ws b b′ s z a r t h e e′ h′ g =
     record {
       malformed = λ q. absurd (omega arith);
@@ -57,16 +56,12 @@ answered-as kind x code v us ws b b′ s z a r t h e e′ h′ g =
           (subst (λ (y : Solve). Answers (runOf y b) (replyOf kind x code) v us ws (gave r b′)) e (subst (λ (y : Reply). Answers (runOf s b) y v us ws (gave r b′)) e′ g));
     }
 
-pub by-kind : (o : Option Kind) → cond (waiting o) 7 6 ≡ strange o
-by-kind none = refl
-by-kind (some k) = refl
-
 strange-is : (s z : Solve) (b : Board) (waits : Bool) → s ≡ z → waits ≡ waiting (wantedOf s) → cond waits 7 6 ≡ strange (wanted (rest (runOf z b)))
 strange-is s z b waits e h =
-    ap (λ (c : Bool). cond c 7 6) h ∙ ap (λ (q : Solve). cond (waiting (wantedOf q)) 7 6) e ∙ by-kind (wantedOf z) ∙ ap strange (sym (wanted-is z b))
+    ap (λ (c : Bool). cond c 7 6) h ∙ ap (λ (q : Solve). cond (waiting (wantedOf q)) 7 6) e ∙ strange-round (wantedOf z) ∙ ap strange (sym (wanted-is z b))
 
 pub malformed-as : (kind : ℕ) (x : Float) (code : ℕ) (v us : List Float) (w w′ k : List ℕ) (f : List Float) (b : Board) (s : Solve) (waits : Bool) (r : ℕ) → 4 < kind → s ≡ solveOf w k f
-    → waits ≡ waiting (wantedOf s) → (w′ ≡ noted (cond waits 7 6) w) × (r ≡ 2) → InnerExported kind x code v us us (runOf (solveOf w k f) b) (gave (stepOf r w′ k f) b)
+    → waits ≡ waiting (wantedOf s) → (w′ ≡ noted (cond waits 7 6) w) × (r ≡ 2) → Exported kind x code v us us (runOf (solveOf w k f) b) (gave (stepOf r w′ k f) b)
 malformed-as kind x code v us w w′ k f b s waits r h e q n =
     rw (n .0, n .1) (record { malformed = λ i. (ap Refused (strange-is s (solveOf w k f) b waits e q), refl, refl); answered = λ i. absurd (omega arith) })
 

@@ -1,7 +1,7 @@
-use Rattle.host.proofs.PsiLaws.{psi-points}
+use Rattle.host_psi.proofs.Laws.{psi-points}
 use borrow.Author.Needs.{needs}
-use Rattle.host.proofs.psi.pozkerrin_psi_points.Statement.{statement}
-use Rattle.host.proofs.psi.pozkerrin_psi_points.Tie as tie
+use Rattle.host_psi.proofs.psi.pozkerrin_psi_points.Statement.{statement}
+use Rattle.host_psi.proofs.psi.pozkerrin_psi_points.Tie as tie
 
 psi-of-requires : tie.Need-psi-of-requires
 psi-of-requires c κs = search needs
