@@ -1,6 +1,6 @@
 use borrow.Author.Needs.{needs}
-use Rattle.alm_image.proofs.alm.settings_of.Statement.{statement}
-use Rattle.alm_image.proofs.alm.settings_of.Tie as tie
+use Rattle.alm_image.proofs.lent.settings_of.Statement.{statement}
+use Rattle.alm_image.proofs.lent.settings_of.Tie as tie
 
 element-copy-out-flag-of : tie.Need-element-copy-out-flag-of
 element-copy-out-flag-of c = search needs

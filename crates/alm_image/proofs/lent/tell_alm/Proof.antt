@@ -1,7 +1,7 @@
 use Rattle.alm_image.proofs.Laws.{asked-as, ended-as, refused-as, failed-as}
 use borrow.Author.Needs.{needs}
-use Rattle.alm_image.proofs.alm.tell_alm.Statement.{statement}
-use Rattle.alm_image.proofs.alm.tell_alm.Tie as tie
+use Rattle.alm_image.proofs.lent.tell_alm.Statement.{statement}
+use Rattle.alm_image.proofs.lent.tell_alm.Tie as tie
 
 enum-known-o : tie.Need-enum-known-o
 enum-known-o c = search needs

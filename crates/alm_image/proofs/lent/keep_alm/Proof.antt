@@ -1,7 +1,7 @@
 use Rattle.alm_image.proofs.Laws.{kept-as}
 use borrow.Author.Needs.{needs}
-use Rattle.alm_image.proofs.alm.keep_alm.Statement.{statement}
-use Rattle.alm_image.proofs.alm.keep_alm.Tie as tie
+use Rattle.alm_image.proofs.lent.keep_alm.Statement.{statement}
+use Rattle.alm_image.proofs.lent.keep_alm.Tie as tie
 
 keep-settings-requires : tie.Need-keep-settings-requires
 keep-settings-requires c κs = search needs

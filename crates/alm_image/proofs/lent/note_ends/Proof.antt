@@ -1,7 +1,7 @@
 use mathlib.Core.Path.{refl}
 use borrow.Author.Needs.{needs}
-use Rattle.alm_image.proofs.alm.note_ends.Statement.{statement}
-use Rattle.alm_image.proofs.alm.note_ends.Tie as tie
+use Rattle.alm_image.proofs.lent.note_ends.Statement.{statement}
+use Rattle.alm_image.proofs.lent.note_ends.Tie as tie
 
 element-copy-out-a : tie.Need-element-copy-out-a
 element-copy-out-a c = search needs

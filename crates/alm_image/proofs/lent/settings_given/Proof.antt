@@ -1,6 +1,6 @@
 use borrow.Author.Needs.{needs}
-use Rattle.alm_image.proofs.alm.settings_given.Statement.{statement}
-use Rattle.alm_image.proofs.alm.settings_given.Tie as tie
+use Rattle.alm_image.proofs.lent.settings_given.Statement.{statement}
+use Rattle.alm_image.proofs.lent.settings_given.Tie as tie
 
 flag-of-requires : tie.Need-flag-of-requires
 flag-of-requires c κs = search needs

@@ -1,6 +1,6 @@
 use borrow.Author.Needs.{needs}
-use Rattle.alm_image.proofs.alm.alm_of.Statement.{statement}
-use Rattle.alm_image.proofs.alm.alm_of.Tie as tie
+use Rattle.alm_image.proofs.lent.alm_of.Statement.{statement}
+use Rattle.alm_image.proofs.lent.alm_of.Tie as tie
 
 element-copy-out-alm-phase-of : tie.Need-element-copy-out-alm-phase-of
 element-copy-out-alm-phase-of c = search needs
