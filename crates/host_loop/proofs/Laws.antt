@@ -104,8 +104,12 @@ inner-three (suc (suc (suc (suc (suc (suc (suc (suc n)))))))) e = absurd (omega 
 pub not-inner : (p : ℕ) → (p ≡ 3 → ⊥) → phaseOf p ≡ P.Inner → ⊥
 not-inner p h e = h (inner-three p (ap phaseNumber e))
 
-blank : LoopBoard
+pub blank : LoopBoard
 blank = record { inner = none-lent; y = []; yPlus = []; w = [] }
+
+nothing-out : (q : AlmQuestion) (o : AlmStepped) (x y us xs : List Float) → o .outcome ≡ Asked q → HandsOut o x y us us xs xs
+unfolding given xiHanded
+nothing-out q o x y us xs e = record { plan = rw e refl; xi = rw e refl }
 
 -- an accepted answer
 module _ (s : Alm) (a : Reply) (v us xs : List Float) (acc : Accepted s a v us xs) where
@@ -121,7 +125,7 @@ module _ (s : Alm) (a : Reply) (v us xs : List Float) (acc : Accepted s a v us x
   pub settles : (b b′ : LoopBoard) (o t : AlmStepped) (us′ xs′ : List Float) → Takes s b a v o b′ → (t ≡ o) × HandsOut o (b′ .inner .u) (b′ .yPlus) us us′ xs xs′
       → Answers (runOf s b) a v us us′ xs xs′ (gave t b′)
   settles b b′ o t us′ xs′ k h =
-      subst (λ (q : AlmStepped). Answers (runOf s b) a v us us′ xs xs′ (gave q b′)) (sym (h .0)) (answer-goes s b a v us xs 0 _ refl (sym acc) b′ us′ xs′ o refl k (h .1 .0) (h .1 .1))
+      subst (λ (q : AlmStepped). Answers (runOf s b) a v us us′ xs xs′ (gave q b′)) (sym (h .0)) (answer-goes s b a v us xs 0 _ refl (sym acc) b′ us′ xs′ o refl k (h .1 .plan) (h .1 .xi))
 
   -- by the loop itself
   module _ (z : Alm) (e : z ≡ s) where
@@ -155,8 +159,12 @@ module _ (s : Alm) (a : Reply) (v us xs : List Float) (acc : Accepted s a v us x
         inner-takes s b a v r i may ph taken o u y
         (subst (λ (j : Alm). (c : LoopBoard) → Carries j r (four (i .u) (i .best) (b .y) (b .yPlus) c) o (four u (i .best) y (b .yPlus) c)) h k)
 
-    pub asked-takes : (j : Question) (o : AlmStepped) → r .outcome ≡ IO.Asked j → o ≡ stepped (Asked (Q.Inner j)) P.Inner (holding (r .solve) s) → Takes s b a v o (record { inner = i; y = b .y; yPlus = b .yPlus; w = b .w })
-    asked-takes j o h q = on-takes s o (i .u) (b .y) refl (λ c. carries-asked s (four (i .u) (i .best) (b .y) (b .yPlus) c) r o ready same j h q)
+    pub asked-settles : (j : Question) (o : AlmStepped) → r .outcome ≡ IO.Asked j → o ≡ stepped (Asked (Q.Inner j)) P.Inner (holding (r .solve) s)
+        → Answers (runOf s b) a v us us xs xs (gave o (record { inner = i; y = b .y; yPlus = b .yPlus; w = b .w }))
+    asked-settles j o h q =
+        settles b (record { inner = i; y = b .y; yPlus = b .yPlus; w = b .w }) o o us xs
+        (on-takes s o (i .u) (b .y) refl (λ c. carries-asked s (four (i .u) (i .best) (b .y) (b .yPlus) c) r o ready same j h q))
+        (refl, nothing-out (Q.Inner j) o (i .u) (b .yPlus) us xs (ap (λ (c : AlmStepped). c .outcome) q))
 
 pub take-may : (s : Alm) (a : Reply) (v us xs : List Float) → Accepted s a v us xs → s .phase ≡ P.Inner → (z : Solve) → z ≡ s .solve
     → answerRefusal (InnerBoard.wantedOf z) (Inner.replyOf a) (length v) true ≡ 0
@@ -186,10 +194,6 @@ module _ (w w′ w″ k k′ : List ℕ) (f f′ : List Float) (lw lk : List ℕ
       ∙ ap (λ (c : Solve). record { outcome = Asked (questionOf m); alm = holding c (almOf w k f lw lk lf) }) g
       ∙ ap (λ (c : AlmQuestion). record { outcome = Asked c; alm = holding (r .solve) (almOf w k f lw lk lf) }) (ap questionOf (q ∙ ap askedNumber h) ∙ asked-round j)
       ∙ ap (λ (c : AlmPhase). record { outcome = Asked (Q.Inner j); alm = atPhase c (holding (r .solve) (almOf w k f lw lk lf)) }) (ap phaseOf p)
-
-pub kept-plan : (q : AlmQuestion) (o : AlmOutcome) (x y us xs : List Float) (a : Alm) → o ≡ Asked q → HandsOut (record { outcome = o; alm = a }) x y us us xs xs
-unfolding given xiHanded
-kept-plan q o x y us xs a e = rw e (refl, refl)
 
 -- ---- points
 pub points-as : (s z : Alm) (b : LoopBoard) (xs xs′ ys ys′ : List Float) (m : ℕ) → s ≡ z → Points (runOf s b) xs xs′ ys ys′ m → Points (runOf z b) xs xs′ ys ys′ m

@@ -29,9 +29,10 @@ pub record Exported (kind : ℕ) (x : Float) (code : ℕ) (v us ws xs zs : List 
 abbrev pub Accepted : Alm → Reply → List Float → List Float → List Float → Type 0
 Accepted s a v us xs = answerRefusal (wantedOf s) (Inner.replyOf a) (length v) (lentRight (s .set) (length us) (length xs)) ≡ 0
 
--- what an end hands back is in the lent u and xi
-abbrev pub HandsOut : AlmStepped → List Float → List Float → List Float → List Float → List Float → List Float → Type 0
-HandsOut o u y us ws xs zs = (ws ≡ given (o .outcome) (firsts (length us) u) us) × (zs ≡ xiHanded (o .outcome) y xs)
+-- what an end hands back is in the lent u and xi, which are us and xs before and ws and zs after
+pub record HandsOut (o : AlmStepped) (u y us ws xs zs : List Float) : Type 0 where
+  pub plan : ws ≡ given (o .outcome) (firsts (length us) u) us
+  pub xi : zs ≡ xiHanded (o .outcome) y xs
 
 -- whether an inner solve asks on, and the number of its question
 abbrev pub asksOn : Outcome → Bool
