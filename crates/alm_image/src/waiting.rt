@@ -108,7 +108,7 @@ pub fn wants(
             AlmPhase::ProjectY => Wanted::Vector(n1),
             AlmPhase::Inner => {
                 let solve = solve_of(w, k, f);
-                panoc::panoc_answers::wants(solve)
+                panoc_answers::wants(solve)
             }
             AlmPhase::F1 => Wanted::Vector(n1),
             AlmPhase::ProjectC => Wanted::Vector(n1),
