@@ -14,6 +14,12 @@ const EPSILON_LIPSCHITZ: f64 = 1e-6;
 
 const DELTA_LIPSCHITZ: f64 = 1e-12;
 
+// The two sums of an envelope.
+pub struct EnvelopeSums {
+    pub gradient_squared: f64,
+    pub distance_squared: f64,
+}
+
 // An array of 64 has 64 places. A leaf that writes calls this once: the checker gives no length for a lent array.
 pub fn sized(a: &[f64; 64]) -> usize
     ensures { λ r. ⌜ length (now (a .entry)) ≡ 64 ⌝ }
@@ -202,6 +208,28 @@ pub fn norm2_squared_diff(a: &[f64; 64], b: &[f64; 64], n: usize) -> f64
         i += 1;
     }
     s
+}
+
+// The sum of the squares of g and that of a - b, in one loop: neither waits for the other.
+pub fn envelope_sums(g: &[f64; 64], a: &[f64; 64], b: &[f64; 64], n: usize) -> EnvelopeSums
+    requires { ⌜ n ≤ 64 ⌝ }
+    ensures gradient { λ r. ⌜ r .«gradient_squared» ≡ squares binary64 (firsts n (now (g .entry))) ⌝ }
+    ensures distance { λ r. ⌜ r .«distance_squared» ≡ squares binary64 (minus binary64 (firsts n (now (a .entry))) (firsts n (now (b .entry)))) ⌝ }
+{
+    let mut s = 0.0;
+    let mut t = 0.0;
+    let mut i = 0;
+    while i < n {
+        let y = g[i];
+        let d = a[i] - b[i];
+        s = s + y * y;
+        t = t + d * d;
+        i += 1;
+    }
+    EnvelopeSums {
+        gradient_squared: s,
+        distance_squared: t,
+    }
 }
 
 // The norm of a - b.

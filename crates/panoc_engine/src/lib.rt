@@ -153,9 +153,8 @@ pub fn envelope(s: Solve, gradient: &[f64; 64], step: &[f64; 64], half: &[f64; 6
 {
     let n = s.set.n;
     let gamma = s.numbers.gamma;
-    let gradient_squared = matrix_operations::norm2_squared(gradient, n);
-    let distance_squared = matrix_operations::norm2_squared_diff(step, half, n);
-    s.numbers.cost_value - 0.5 * gamma * gradient_squared + 0.5 * distance_squared / gamma
+    let sums = matrix_operations::envelope_sums(gradient, step, half, n);
+    s.numbers.cost_value - 0.5 * gamma * sums.gradient_squared + 0.5 * sums.distance_squared / gamma
 }
 
 // A later step's move begins: what a candidate is held to, and the candidate for τ = 1.
