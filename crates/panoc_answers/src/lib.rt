@@ -19,6 +19,10 @@ use panoc_core::panoc_cache::Solve;
 use panoc_core::panoc_cache::Stepped;
 use panoc_core::panoc_cache::at_phase;
 use panoc_core::panoc_cache::stops;
+use panoc_core::panoc_steps::on_last_cost;
+use panoc_core::panoc_steps::on_project;
+use panoc_core::panoc_steps::timed;
+use panoc_core::refusals::Wanted;
 use panoc_engine::on_direction;
 use panoc_engine::on_doubled_cost;
 use panoc_engine::on_doubled_project;
@@ -29,10 +33,6 @@ use panoc_engine::on_half_cost;
 use panoc_engine::on_tried_cost;
 use panoc_engine::on_tried_gradient;
 use panoc_engine::on_tried_project;
-use panoc_core::panoc_steps::on_last_cost;
-use panoc_core::panoc_steps::on_project;
-use panoc_core::panoc_steps::timed;
-use panoc_core::refusals::Wanted;
 
 // Whether sizes and counters are in range: a run that no start made counts as one that has ended.
 pub fn is_sound(s: Solve) -> bool
@@ -99,7 +99,7 @@ pub fn on_number(
     let phase = s.phase;
     match phase {
         Phase::Cost => on_cost(s, x),
-        Phase::HalfCost => on_half_cost(s, x, u, gradient, step, fpr),
+        Phase::HalfCost => on_half_cost(s, x, u, gradient, step),
         Phase::DoubledCost => on_doubled_cost(s, x, u, gradient, step, half, fpr),
         Phase::FirstCost => on_first_cost(s, x),
         Phase::TriedCost => on_tried_cost(s, x),
