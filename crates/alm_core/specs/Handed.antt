@@ -19,7 +19,7 @@ use Rattle.model.specs.Inner.{Next}
 use Rattle.model.specs.Refusals as R
 use Rattle.model.specs.Refusals.{accept, replied, goOn, asNumber, asVector, asDecision}
 use Rattle.panoc_core.specs.Values.{said, settingsOf, replyOf, statusOf}
-use Rattle.panoc_core.specs.Rest.{rest, resume, sound, iterateOf, stateOf, openingOf, nextOf, retryOf, doublingOf}
+use Rattle.panoc_core.specs.Rest.{rest, resume, sound, iterateOf, stateOf, openingOf, nextOf, retryOf, doublingOf, doublingAt, halfCostAt}
 use Rattle.panoc_core.specs.Board.{Board, runOf, Sound}
 use Rattle.panoc_core.specs.Laws.{rest-sound, sound-count}
 use Rattle.panoc_core.specs.declared.panoc_cache.Phase.{Phase}
@@ -61,6 +61,11 @@ module _ (s : S.Settings) where
   doubling-short zero e next forget st c = tt
   doubling-short (suc k) e next forget st c = short-cond (lt (I.ceiling binary64 st) c && lt (st .at .lipschitz) (maxLipschitzConstant binary64)) _ _ tt tt
 
+  held-short : (k : ℕ) (e : M.Status) (next : Next) (forget : Bool) (v : Float) (st : State) (c : Float) → Short (doublingAt s e next k forget v st c)
+  unfolding doublingAt I.askDirection said
+  held-short zero e next forget v st c = tt
+  held-short (suc k) e next forget v st c = short-cond (lt v c && lt (st .at .lipschitz) (maxLipschitzConstant binary64)) _ _ tt tt
+
   retry-short : (k : ℕ) (e : M.Status) (l : ℕ) (τ v : Float) (d w : List Float) (st : State) → Short (I.retry binary64 s k e (I.laps binary64 s l) τ v d w st)
   unfolding I.retry I.trial said
   retry-short zero e l τ v d w st = onward-short e l _
@@ -75,12 +80,12 @@ module _ (r : Run) (few : r .solve .iterations .0 ≤ 10000) where
   end = statusOf (r .solve .status)
 
   number-short : (p : Phase) (x : Float) (v : List Float) → Short (accept (resume r p) (R.Reply.number x) v)
-  unfolding accept replied goOn asNumber resume said I.startCost I.halfCost I.doubledCost I.firstCost I.triedCost I.lastCost
+  unfolding accept replied goOn asNumber resume said I.startCost halfCostAt I.doubledCost I.firstCost I.triedCost I.lastCost
   number-short P.Cost x v = tt
   number-short P.Gradient x v = tt
   number-short P.Shifted x v = tt
   number-short P.Project x v = tt
-  number-short P.HalfCost x v = short-cond (finite x) _ _ (doubling-short set 10 end _ _ _ x) tt
+  number-short P.HalfCost x v = short-cond (finite x) _ _ (held-short set 10 end _ _ _ _ x) tt
   number-short P.DoubledProject x v = tt
   number-short P.DoubledCost x v = short-cond (finite x) _ _ (doubling-short set (r .solve .rounds) end _ true _ x) tt
   number-short P.Direction x v = tt

@@ -14,6 +14,18 @@ const EPSILON_LIPSCHITZ: f64 = 1e-6;
 
 const DELTA_LIPSCHITZ: f64 = 1e-12;
 
+// The norm of a residual, and its product with a gradient.
+pub struct ResidualSums {
+    pub norm: f64,
+    pub product: f64,
+}
+
+// The two sums of an envelope.
+pub struct EnvelopeSums {
+    pub gradient_squared: f64,
+    pub distance_squared: f64,
+}
+
 // An array of 64 has 64 places. A leaf that writes calls this once: the checker gives no length for a lent array.
 pub fn sized(a: &[f64; 64]) -> usize
     ensures { λ r. ⌜ length (now (a .entry)) ≡ 64 ⌝ }
@@ -204,6 +216,28 @@ pub fn norm2_squared_diff(a: &[f64; 64], b: &[f64; 64], n: usize) -> f64
     s
 }
 
+// The sum of the squares of g and that of a - b, in one loop: neither waits for the other.
+pub fn envelope_sums(g: &[f64; 64], a: &[f64; 64], b: &[f64; 64], n: usize) -> EnvelopeSums
+    requires { ⌜ n ≤ 64 ⌝ }
+    ensures gradient { λ r. ⌜ r .«gradient_squared» ≡ squares binary64 (firsts n (now (g .entry))) ⌝ }
+    ensures distance { λ r. ⌜ r .«distance_squared» ≡ squares binary64 (minus binary64 (firsts n (now (a .entry))) (firsts n (now (b .entry)))) ⌝ }
+{
+    let mut s = 0.0;
+    let mut t = 0.0;
+    let mut i = 0;
+    while i < n {
+        let y = g[i];
+        let d = a[i] - b[i];
+        s = s + y * y;
+        t = t + d * d;
+        i += 1;
+    }
+    EnvelopeSums {
+        gradient_squared: s,
+        distance_squared: t,
+    }
+}
+
 // The norm of a - b.
 pub fn norm2_diff(a: &[f64; 64], b: &[f64; 64], n: usize) -> f64
     requires { ⌜ n ≤ 64 ⌝ }
@@ -212,22 +246,32 @@ pub fn norm2_diff(a: &[f64; 64], b: &[f64; 64], n: usize) -> f64
     numeric::sqrt(norm2_squared_diff(a, b, n))
 }
 
-// r = u - h; its norm is returned.
-pub fn residual_into(u: &[f64; 64], h: &[f64; 64], r: &mut [f64; 64], n: usize) -> f64
+// r = u - h; its norm and the sum of the products of g and r are returned, summed in one loop.
+pub fn residual_into(
+    u: &[f64; 64],
+    h: &[f64; 64],
+    g: &[f64; 64],
+    r: &mut [f64; 64],
+    n: usize,
+) -> ResidualSums
     requires { ⌜ n ≤ 64 ⌝ }
     ensures left { λ _. ⌜ firsts n (now (r .exit)) ≡ minus binary64 (firsts n (now (u .entry))) (firsts n (now (h .entry))) ⌝ }
-    ensures size { λ x. ⌜ x ≡ norm binary64 (minus binary64 (firsts n (now (u .entry))) (firsts n (now (h .entry)))) ⌝ }
+    ensures size { λ x. ⌜ x .norm ≡ norm binary64 (minus binary64 (firsts n (now (u .entry))) (firsts n (now (h .entry)))) ⌝ }
+    ensures product { λ x. ⌜ x .product ≡ dot binary64 (firsts n (now (g .entry))) (minus binary64 (firsts n (now (u .entry))) (firsts n (now (h .entry)))) ⌝ }
 {
     let _ = sized(r);
     let mut s = 0.0;
+    let mut t = 0.0;
     let mut i = 0;
     while i < n {
         let x = u[i] - h[i];
         s = s + x * x;
+        t = t + g[i] * x;
         r[i] = x;
         i += 1;
     }
-    numeric::sqrt(s)
+    let norm = numeric::sqrt(s);
+    ResidualSums { norm, product: t }
 }
 
 // The sum of the products.

@@ -99,7 +99,7 @@ pub fn on_number(
     let phase = s.phase;
     match phase {
         Phase::Cost => on_cost(s, x),
-        Phase::HalfCost => on_half_cost(s, x, u, gradient, step, fpr),
+        Phase::HalfCost => on_half_cost(s, x, u, gradient, step),
         Phase::DoubledCost => on_doubled_cost(s, x, u, gradient, step, half, fpr),
         Phase::FirstCost => on_first_cost(s, x),
         Phase::TriedCost => on_tried_cost(s, x),

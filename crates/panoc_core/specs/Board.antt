@@ -8,6 +8,7 @@ use mathlib.Core.Bool.{Bool, true, false, cond}
 use mathlib.Core.Option.{Option, none, some}
 use lib.Ieee.{Float, binary64, ofBits}
 use Rattle.matrix_operations.specs.Firsts.{firsts}
+use Rattle.model.specs.Vectors.{dot}
 use Rattle.model.specs.Process as M
 use Rattle.model.specs.Process.{Kind}
 use Rattle.model.specs.State as S
@@ -157,6 +158,10 @@ iterateAt s b = iterateOf (runOf s b)
 
 abbrev pub stateAt : Solve → Board → S.State
 stateAt s b = stateOf (runOf s b)
+
+-- v is what the cost at the half step is held to, of a state with this cost, γ and norm, z the product of its gradient and residual
+abbrev pub Ceiling : Float → Float → Float → Float → Float → Type 0
+Ceiling c g x z v = (st : S.State) → st .at .cost ≡ c → st .at .gamma ≡ g → st .norm ≡ x → dot binary64 (st .at .gradient) (st .residual) ≡ z → v ≡ I.ceiling binary64 st
 
 -- a run that a start made
 abbrev pub Sound : Solve → Type 0

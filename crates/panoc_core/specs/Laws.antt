@@ -1,6 +1,6 @@
 -- What each way through a handler comes to, over plain values. Assumes nothing.
 use Prim.Native.Nat.{ℕ, zero, suc, _+_, _-_, _≤_, _<_}
-use mathlib.Core.Path.{_≡_, refl, sym, ap, _∙_, subst}
+use mathlib.Core.Path.{_≡_, refl, sym, ap, _∙_, subst, fun-ext}
 use mathlib.Core.Bool.{Bool, true, false, cond, _&&_}
 use mathlib.Core.List.{List, []}
 use mathlib.Core.Option.{Option, none, some}
@@ -42,8 +42,8 @@ use Rattle.panoc_core.specs.declared.panoc_cache.Solve.{Solve}
 use Rattle.panoc_core.specs.declared.panoc_cache.Stepped.{Stepped}
 use Rattle.panoc_core.specs.declared.panoc_cache.Run.{Run}
 use Rattle.panoc_core.specs.Values.{akktOf, settingsOf, statusOf, exitStatus, replyOf, questionOf, said, ended}
-use Rattle.panoc_core.specs.Rest.{rest, resume, sound, iterateOf, stateOf, openingOf, nextOf, retryOf, doublingOf}
-use Rattle.panoc_core.specs.Board.{Board, runOf, given, Comes, Takes, Sound, bestAt, setOf, endOf, nextAt, iterateAt, stateAt, withNumbers, atPhase, withStatus, stepped, setU, setPlus, setGradient, setStep, setHalf, setFpr, setDirection, setBest, setPrevious, six, seven, nine}
+use Rattle.panoc_core.specs.Rest.{rest, resume, sound, iterateOf, stateOf, openingOf, nextOf, retryOf, doublingOf, doublingAt, halfCostAt}
+use Rattle.panoc_core.specs.Board.{Board, runOf, given, Comes, Takes, Sound, Ceiling, bestAt, setOf, endOf, nextAt, iterateAt, stateAt, withNumbers, atPhase, withStatus, stepped, setU, setPlus, setGradient, setStep, setHalf, setFpr, setDirection, setBest, setPrevious, six, seven, nine}
 
 -- ---- both of two tests
 pub and-left : (a b : Bool) → (a && b) ≡ true → a ≡ true
@@ -228,6 +228,17 @@ module _ (s : Solve) (b : Board) (ok : Sound s) (r : Stepped) where
   unfolding resume I.lastCost
   last-stops x p fin e = takes-number s b b r ok P.LastCost p _ _ x refl (rw fin (stops-comes s b 16 r e))
 
+-- ---- the half step held to the ceiling
+pub doubling-at : (s : S.Settings) (e : M.Status) (next : I.Next) (k : ℕ) (forget : Bool) (st : State) (c : Float)
+    → doublingAt s e next k forget (I.ceiling binary64 st) st c ≡ I.doubling binary64 s k e next forget st c
+unfolding doublingAt I.doubling
+doubling-at s e next zero forget st c = refl
+doubling-at s e next (suc k) forget st c = refl
+
+half-cost-at : (s : S.Settings) (e : M.Status) (next : I.Next) (st : State) → halfCostAt s e next (I.ceiling binary64 st) st ≡ I.halfCost binary64 s e next st
+unfolding halfCostAt I.halfCost
+half-cost-at s e next st = fun-ext (λ c. ap (λ (p : M.Solve). cond (finite c) p (stop (refused 11))) (doubling-at s e next 10 (eqb (st .at .count) 0) st c))
+
 -- ---- a step
 module _ (s : Solve) (b : Board) (ok : Sound s) (p f best : List Float) (x y : Float)
     (pv : firsts (s .set .n) p ≡ cond (eqb (s .iterations .0) 0) (firsts (s .set .n) (b .previous)) (firsts (s .set .n) (b .gradient)))
@@ -257,12 +268,17 @@ module _ (s : Solve) (b : Board) (ok : Sound s) (p f best : List Float) (x y : F
       made q w g z = record { at = S.withKept q w (iterateAt s b); residual = g; norm = z }
 
   module _ (r : Stepped) (t : Bool) (tv : (c : Board) → t ≡ I.passes binary64 (setOf s) (stateAt (withNorms x y s) (setGradient (b .gradient) (setPrevious p (setFpr f c))))) where
-    pub step-asks : t ≡ false → r ≡ stepped (O.Asked Q.Cost) P.HalfCost (withNorms x y s)
+    pub step-asks : (z v : Float) → z ≡ dot binary64 (firsts (s .set .n) (b .gradient)) (minus binary64 (firsts (s .set .n) (b .u)) (firsts (s .set .n) (b .half)))
+        → Ceiling (s .numbers .«cost_value») (s .numbers .gamma) x z v → t ≡ false → r ≡ stepped (O.Asked Q.Cost) P.HalfCost (withSearch (s .numbers .tau) v (withNorms x y s))
         → Comes (s .set) (I.step binary64 (setOf s) (endOf s) (nextAt s) (iterateAt s b)) r (scoredBoard best)
     unfolding I.step I.tested resume sound
-    step-asks no′ e =
+    step-asks z v zv vv no′ e =
+        let st = stateAt (withNorms x y s) (scoredBoard best) in
+        let v≡ : v ≡ I.ceiling binary64 st = vv st refl refl refl (ap (dot binary64 (firsts (s .set .n) (b .gradient))) fv ∙ sym zv) in
         score-comes _ _ _ _ _ _
-        (rw (step-enters, sym (tv (scoredBoard best)) ∙ no′) (asks-comes (withNorms x y s) (scoredBoard best) P.HalfCost _ _ _ r ok e refl))
+        (rw (step-enters, sym (tv (scoredBoard best)) ∙ no′)
+        (asks-comes (withSearch (s .numbers .tau) v (withNorms x y s)) (scoredBoard best) P.HalfCost _ _ _ r ok e
+        (ap (λ (k : Float → M.Solve). ask (M.Question.cost (firsts (s .set .n) (b .half))) Kind.number k) (ap (λ (w : Float). halfCostAt (setOf s) (endOf s) (nextAt s) w st) v≡ ∙ half-cost-at (setOf s) (endOf s) (nextAt s) st))))
 
     pub step-ends : (w : List Float) → t ≡ true
         → ((c : Board) → Comes (s .set) (I.finish binary64 (setOf s) (endOf s) (iterateAt (withNorms x y s) (setU (b .u) (setHalf (b .half) (setBest best c))))) r (setU (b .u) (setHalf (b .half) (setBest w c))))
@@ -373,35 +389,35 @@ module _ (s : Solve) (b : Board) (ok : Sound s) (r : Stepped) where
       (asks-comes (withGammas (s .numbers .«lipschitz_constant») (s .numbers .gamma) σ s) b P.Direction (M.Question.direction (s .forget) (firsts (s .set .n) (b .fpr)) (firsts (s .set .n) (b .u))) _ _ r ok e refl)
 
   pub doubling-none : (c : Float) (k : ℕ) → k ≡ 0 → Comes (s .set) (I.askDirection binary64 (setOf s) (endOf s) (nextAt s) (s .forget) (stateAt s b)) r b
-      → Comes (s .set) (I.doubling binary64 (setOf s) k (endOf s) (nextAt s) (s .forget) (stateAt s b) c) r b
-  unfolding I.doubling
+      → Comes (s .set) (doublingAt (setOf s) (endOf s) (nextAt s) k (s .forget) (s .numbers .«rhs_ls») (stateAt s b) c) r b
+  unfolding doublingAt
   doubling-none c k z w = rw z w
 
-  pub doubling-stays : (c : Float) (k : ℕ) → (k ≡ 0 → ⊥) → (lt (I.ceiling binary64 (stateAt s b)) c && lt (s .numbers .«lipschitz_constant») (maxLipschitzConstant binary64)) ≡ false
+  pub doubling-stays : (c : Float) (k : ℕ) → (k ≡ 0 → ⊥) → (lt (s .numbers .«rhs_ls») c && lt (s .numbers .«lipschitz_constant») (maxLipschitzConstant binary64)) ≡ false
       → Comes (s .set) (I.askDirection binary64 (setOf s) (endOf s) (nextAt s) (s .forget) (stateAt s b)) r b
-      → Comes (s .set) (I.doubling binary64 (setOf s) k (endOf s) (nextAt s) (s .forget) (stateAt s b) c) r b
-  unfolding I.doubling
+      → Comes (s .set) (doublingAt (setOf s) (endOf s) (nextAt s) k (s .forget) (s .numbers .«rhs_ls») (stateAt s b) c) r b
+  unfolding doublingAt
   doubling-stays c zero z q w = absurd (z refl)
   doubling-stays c (suc k) z q w = rw q w
 
   pub doubling-goes : (c : Float) (k : ℕ) (l g : Float) (t : List Float) → s .rounds ≡ suc k
-      → (lt (I.ceiling binary64 (stateAt s b)) c && lt (s .numbers .«lipschitz_constant») (maxLipschitzConstant binary64)) ≡ true
+      → (lt (s .numbers .«rhs_ls») c && lt (s .numbers .«lipschitz_constant») (maxLipschitzConstant binary64)) ≡ true
       → l ≡ mul binary64 (s .numbers .«lipschitz_constant») (two binary64) → g ≡ div binary64 (s .numbers .gamma) (two binary64)
       → firsts (s .set .n) t ≡ lessTimes binary64 g (firsts (s .set .n) (b .u)) (firsts (s .set .n) (b .gradient))
       → r ≡ stepped (O.Asked Q.Project) P.DoubledProject (withRounds k (s .forget) (withGammas l g (s .numbers .sigma) s))
-      → Comes (s .set) (I.doubling binary64 (setOf s) (s .rounds) (endOf s) (nextAt s) (s .forget) (stateAt s b) c) r (setStep t b)
-  unfolding I.doubling I.doubled resume sound
+      → Comes (s .set) (doublingAt (setOf s) (endOf s) (nextAt s) (s .rounds) (s .forget) (s .numbers .«rhs_ls») (stateAt s b) c) r (setStep t b)
+  unfolding doublingAt I.doubled resume sound
   doubling-goes c k l g t z q lv gv tv e =
-      subst (λ (m : ℕ). Comes (s .set) (I.doubling binary64 (setOf s) m (endOf s) (nextAt s) (s .forget) (stateAt s b) c) r (setStep t b)) (sym z)
+      subst (λ (m : ℕ). Comes (s .set) (doublingAt (setOf s) (endOf s) (nextAt s) m (s .forget) (s .numbers .«rhs_ls») (stateAt s b) c) r (setStep t b)) (sym z)
       (rw q (asks-comes (withRounds k (s .forget) (withGammas l g (s .numbers .sigma) s)) (setStep t b) P.DoubledProject _ _ _ r ok e (rw (tv, lv, gv))))
 
   pub half-goes : (x : Float) (b′ : Board) → s .phase ≡ P.HalfCost → finite x ≡ true
-      → Comes (s .set) (I.doubling binary64 (setOf s) 10 (endOf s) (nextAt s) (eqb (s .iterations .0) 0) (stateAt s b) x) r b′ → Takes s b (Number x) [] r b′
-  unfolding resume I.halfCost
+      → Comes (s .set) (doublingAt (setOf s) (endOf s) (nextAt s) 10 (eqb (s .iterations .0) 0) (s .numbers .«rhs_ls») (stateAt s b) x) r b′ → Takes s b (Number x) [] r b′
+  unfolding resume halfCostAt
   half-goes x b′ p fin c = takes-number s b b′ r ok P.HalfCost p _ _ x refl (rw fin c)
 
   pub half-stops : (x : Float) (b′ : Board) → s .phase ≡ P.HalfCost → finite x ≡ false → r ≡ stepped (O.Refused 11) P.Over s → Takes s b (Number x) [] r b′
-  unfolding resume I.halfCost
+  unfolding resume halfCostAt
   half-stops x b′ p fin e = takes-number s b b′ r ok P.HalfCost p _ _ x refl (rw fin (stops-comes s b′ 11 r e))
 
   pub doubled-project-goes : (v h : List Float) → s .phase ≡ P.DoubledProject → length v ≡ s .set .n → firsts (length v) h ≡ v
@@ -411,13 +427,19 @@ module _ (s : Solve) (b : Board) (ok : Sound s) (r : Stepped) where
       takes-vector s b (setHalf h b) r ok P.DoubledProject p _ _ _ v refl
       (asks-comes s (setHalf h b) P.DoubledCost _ _ _ r ok e (rw (taken (s .set .n) v h l hv)))
 
-  pub doubled-cost-goes : (x y : Float) (f : List Float) (b′ : Board) → s .phase ≡ P.DoubledCost → finite x ≡ true
+  pub doubled-cost-goes : (x y z v : Float) (f : List Float) (b′ : Board) → s .phase ≡ P.DoubledCost → finite x ≡ true
       → firsts (s .set .n) f ≡ minus binary64 (firsts (s .set .n) (b .u)) (firsts (s .set .n) (b .half))
       → y ≡ norm binary64 (minus binary64 (firsts (s .set .n) (b .u)) (firsts (s .set .n) (b .half)))
-      → Comes (s .set) (I.doubling binary64 (setOf s) (s .rounds) (endOf s) (nextAt s) true (stateAt (withRounds (s .rounds) true (withNorms y (s .numbers .«best_norm_gamma_fpr») s)) (setFpr f b)) x) r b′
+      → z ≡ dot binary64 (firsts (s .set .n) (b .gradient)) (minus binary64 (firsts (s .set .n) (b .u)) (firsts (s .set .n) (b .half)))
+      → Ceiling (s .numbers .«cost_value») (s .numbers .gamma) y z v
+      → Comes (s .set) (doublingAt (setOf s) (endOf s) (nextAt s) (s .rounds) true v (stateAt (withNorms y (s .numbers .«best_norm_gamma_fpr») s) (setFpr f b)) x) r b′
       → Takes s b (Number x) [] r b′
   unfolding resume I.doubledCost I.renewed
-  doubled-cost-goes x y f b′ p fin fv yv c = takes-number s b b′ r ok P.DoubledCost p _ _ x refl (rw fin (rw (fv, yv) at c))
+  doubled-cost-goes x y z v f b′ p fin fv yv zv vv c₀ =
+      let st = stateAt (withNorms y (s .numbers .«best_norm_gamma_fpr») s) (setFpr f b) in
+      let v≡ : v ≡ I.ceiling binary64 st = vv st refl refl refl (ap (dot binary64 (firsts (s .set .n) (b .gradient))) fv ∙ sym zv) in
+      let c = subst (λ (q : M.Solve). Comes (s .set) q r b′) (ap (λ (w : Float). doublingAt (setOf s) (endOf s) (nextAt s) (s .rounds) true w st x) v≡ ∙ doubling-at (setOf s) (endOf s) (nextAt s) (s .rounds) true st x) c₀ in
+      takes-number s b b′ r ok P.DoubledCost p _ _ x refl (rw fin (rw (fv, yv) at c))
 
   pub doubled-cost-stops : (x : Float) (b′ : Board) → s .phase ≡ P.DoubledCost → finite x ≡ false → r ≡ stepped (O.Refused 12) P.Over s → Takes s b (Number x) [] r b′
   unfolding resume I.doubledCost
@@ -569,22 +591,20 @@ pub sigma-is : (g : Float)
 unfolding I.sigmaOf
 sigma-is g = rw (one-bits, gammaLCoeff-bits, four-bits)
 
+pub ceiling-is : (c g x z a : Float) → a ≡ absolute c
+    → Ceiling c g x z
+    (add binary64 (sub binary64 (add binary64 c (mul binary64 (ofBits binary64 4517329193108106637) a)) z)
+    (mul binary64 (mul binary64 (div binary64 (ofBits binary64 4606732058837280358) (mul binary64 (ofBits binary64 4611686018427387904) g)) x) x))
+unfolding I.ceiling
+ceiling-is c g x z a av = λ st cv gv xv zv. rw (cv, gv, xv, zv, av, lipschitzUpdateEpsilon-bits, gammaLCoeff-bits, two-bits)
+
+pub exceeds-is : (x c l : Float) → lt x c ≡ true → lt l (ofBits binary64 4741671816366391296) ≡ (lt x c && lt l (maxLipschitzConstant binary64))
+exceeds-is x c l q = rw (q, maxLipschitzConstant-bits)
+
+pub exceeds-not : (x c l : Float) → lt x c ≡ false → false ≡ (lt x c && lt l (maxLipschitzConstant binary64))
+exceeds-not x c l q = rw q
+
 module _ (s : Solve) (b : Board) where
-  pub ceiling-is : (a p : Float) → a ≡ absolute (s .numbers .«cost_value») → p ≡ dot binary64 (firsts (s .set .n) (b .gradient)) (firsts (s .set .n) (b .fpr))
-      → add binary64 (sub binary64 (add binary64 (s .numbers .«cost_value») (mul binary64 (ofBits binary64 4517329193108106637) a)) p)
-      (mul binary64 (mul binary64 (div binary64 (ofBits binary64 4606732058837280358) (mul binary64 (ofBits binary64 4611686018427387904) (s .numbers .gamma))) (s .numbers .«norm_gamma_fpr»)) (s .numbers .«norm_gamma_fpr»))
-      ≡ I.ceiling binary64 (stateAt s b)
-  unfolding I.ceiling
-  ceiling-is a p av pv = rw (av, pv, lipschitzUpdateEpsilon-bits, gammaLCoeff-bits, two-bits)
-
-  pub exceeds-is : (x c : Float) → x ≡ I.ceiling binary64 (stateAt s b) → lt x c ≡ true
-      → lt (s .numbers .«lipschitz_constant») (ofBits binary64 4741671816366391296) ≡ (lt (I.ceiling binary64 (stateAt s b)) c && lt (s .numbers .«lipschitz_constant») (maxLipschitzConstant binary64))
-  exceeds-is x c xv q = rw (← xv, q, maxLipschitzConstant-bits)
-
-  pub exceeds-not : (x c : Float) → x ≡ I.ceiling binary64 (stateAt s b) → lt x c ≡ false
-      → false ≡ (lt (I.ceiling binary64 (stateAt s b)) c && lt (s .numbers .«lipschitz_constant») (maxLipschitzConstant binary64))
-  exceeds-not x c xv q = rw (← xv, q)
-
   pub envelope-is : (q d : Float) → q ≡ squares binary64 (firsts (s .set .n) (b .gradient)) → d ≡ squares binary64 (minus binary64 (firsts (s .set .n) (b .step)) (firsts (s .set .n) (b .half)))
       → add binary64 (sub binary64 (s .numbers .«cost_value») (mul binary64 (mul binary64 (ofBits binary64 4602678819172646912) (s .numbers .gamma)) q)) (div binary64 (mul binary64 (ofBits binary64 4602678819172646912) d) (s .numbers .gamma))
       ≡ I.envelope binary64 (iterateAt s b)

@@ -1,12 +1,14 @@
 -- What is left of a run, as a process of document 01. A run that no start made, with a size or a counter out of range, counts as one that has ended. Definitions only.
-use Prim.Native.Nat.{ℕ, _-_}
+use Prim.Native.Nat.{ℕ, zero, suc, _-_}
 use mathlib.Core.Bool.{Bool, true, false, _&&_, cond}
 use mathlib.Core.List.{List}
-use lib.Dec.{leb}
-use lib.Ieee.{Float, binary64}
+use lib.Dec.{leb, eqb}
+use lib.Ieee.{Float, binary64, lt}
+use lib.Ieee.Scale.{finite}
 use Rattle.matrix_operations.specs.Firsts.{firsts}
-use Rattle.model.specs.Process.{Kind, refused, ask, stop, Question, Solve}
-use Rattle.model.specs.State.{Opening, Iterate, State}
+use Rattle.model.specs.Constants.{maxLipschitzConstant, maxLipschitzUpdates}
+use Rattle.model.specs.Process.{Kind, refused, ask, stop, Question, Status, Solve}
+use Rattle.model.specs.State.{Settings, Opening, Iterate, State}
 use Rattle.model.specs.Inner as I
 use Rattle.panoc_core.specs.declared.panoc_cache.Phase.{Phase}
 use Rattle.panoc_core.specs.declared.panoc_cache.Phase.the-variants.{Cost, Gradient, Shifted, Project, HalfCost, DoubledProject, DoubledCost, Direction, FirstCost, FirstGradient, FirstProject, TriedCost, TriedGradient, TriedProject, Time, LastCost, Over}
@@ -51,8 +53,21 @@ iterateOf r =
 abbrev pub stateOf : Run → State
 stateOf r = record { at = iterateOf r; residual = vectorOf r (r .«gamma_fpr»); norm = r .solve .numbers .«norm_gamma_fpr» }
 
+-- what follows the cost c at the half step where that is held to a number v that is kept; it is the model's where v is the ceiling
+module _ (s : Settings) (e : Status) (next : I.Next) where
+  -- k doublings more
+  unfoldable pub doublingAt : ℕ → Bool → Float → State → Float → Solve
+  doublingAt zero forget v st c = I.askDirection binary64 s e next forget st
+  doublingAt (suc k) forget v st c =
+      cond (lt v c && lt (st .at .lipschitz) (maxLipschitzConstant binary64))
+      (ask (Question.project (I.doubled binary64 s (st .at) .gradientStep)) (Kind.vector (s .n)) (I.doubledProject binary64 s (I.doubling binary64 s k e next true) (I.doubled binary64 s (st .at))))
+      (I.askDirection binary64 s e next forget st)
+
+  unfoldable pub halfCostAt : Float → State → Float → Solve
+  halfCostAt v st c = cond (finite c) (doublingAt maxLipschitzUpdates (eqb (st .at .count) 0) v st c) (stop (refused 11))
+
 module _ (r : Run) where
-  abbrev e : Rattle.model.specs.Process.Status
+  abbrev e : Status
   e = statusOf (r .solve .status)
 
   -- the steps that may still begin
@@ -80,7 +95,7 @@ module _ (r : Run) where
       ask (Question.gradient (vectorOf r (r .u))) (Kind.vector n)
       (I.startShifted binary64 (settingsOf (r .solve .set)) (r .solve .numbers .«norm_h») (vectorOf r (r .u)) (r .solve .numbers .«cost_value») (vectorOf r (r .«gradient_u»)))
   resume Project = ask (Question.project (vectorOf r (r .«gradient_step»))) (Kind.vector n) (I.startProject binary64 (settingsOf (r .solve .set)) (openingOf r))
-  resume HalfCost = ask (Question.cost (vectorOf r (r .«u_half_step»))) Kind.number (I.halfCost binary64 (settingsOf (r .solve .set)) e nextOf (stateOf r))
+  resume HalfCost = ask (Question.cost (vectorOf r (r .«u_half_step»))) Kind.number (halfCostAt (settingsOf (r .solve .set)) e nextOf (r .solve .numbers .«rhs_ls») (stateOf r))
   resume DoubledProject =
       ask (Question.project (vectorOf r (r .«gradient_step»))) (Kind.vector n) (I.doubledProject binary64 (settingsOf (r .solve .set)) doublingOf (iterateOf r))
   resume DoubledCost =

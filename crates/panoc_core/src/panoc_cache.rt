@@ -34,7 +34,8 @@ pub enum ExitStatus {
 // A count of inner iterations; an outer count is another type.
 pub struct InnerIterations(pub usize);
 
-// The running numbers of a solve. norm_h is the norm of the shift of the Lipschitz estimate.
+// The running numbers of a solve. rhs_ls is what the next test holds a value to: the half step's cost, or a candidate's envelope; norm_h
+// is the norm of the shift of the Lipschitz estimate.
 pub struct Numbers {
     pub cost_value: f64,
     pub lipschitz_constant: f64,

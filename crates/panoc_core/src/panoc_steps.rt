@@ -5,7 +5,7 @@ ghost use lib.Ieee.{binary64};
 ghost use lib.ListN.{length};
 ghost use Rattle.model.specs.Inner as I;
 ghost use Rattle.panoc_core.specs.Values.{exitStatus};
-ghost use Rattle.panoc_core.specs.Board.{Board, Sound, Takes, Comes, setOf, endOf, nextAt, iterateAt, six, setU, setHalf, setBest};
+ghost use Rattle.panoc_core.specs.Board.{Board, Sound, Takes, Comes, Ceiling, setOf, endOf, nextAt, iterateAt, six, setU, setHalf, setBest};
 use crate::panoc_cache::ExitStatus;
 use crate::panoc_cache::InnerIterations;
 use crate::panoc_cache::Outcome;
@@ -54,7 +54,14 @@ pub fn standing(s: Solve, in_time: bool) -> ExitStatus
     }
 }
 
-// A step: the previous gradient, the residual, its norm and score, and the tests.
+// cost + 1e-6 × |cost| - (gradient · residual) + (0.95 / (2 × γ)) × norm × norm
+pub fn lipschitz_check_rhs(cost: f64, gamma: f64, norm: f64, product: f64) -> f64
+    ensures { λ r. ⌜ Ceiling cost gamma norm product r ⌝ }
+{
+    cost + 1e-6 * numeric::abs(cost) - product + (0.95 / (2.0 * gamma)) * norm * norm
+}
+
+// A step: the previous gradient, the residual, its norm and score, and the tests. What the cost at the half step is held to is kept.
 pub fn step(
     s: Solve,
     u: &[f64; 64],
@@ -71,7 +78,8 @@ pub fn step(
     let done = s.iterations;
     let k = done.0;
     cache_previous_gradient(k, gradient, previous, n);
-    let norm = matrix_operations::residual_into(u, half, fpr, n);
+    let sums = matrix_operations::residual_into(u, half, gradient, fpr, n);
+    let norm = sums.norm;
     let least = cache_best_half_step(norm, s.numbers.best_norm_gamma_fpr, half, best, n);
     let mut t = s;
     t.numbers.norm_gamma_fpr = norm;
@@ -79,6 +87,8 @@ pub fn step(
     if exit_condition(t, gradient, previous, fpr) {
         finish(t, u, half, best)
     } else {
+        let rhs = lipschitz_check_rhs(s.numbers.cost_value, s.numbers.gamma, norm, sums.product);
+        t.numbers.rhs_ls = rhs;
         asks(t, Phase::HalfCost, Question::Cost)
     }
 }

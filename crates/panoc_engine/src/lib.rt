@@ -9,7 +9,7 @@ ghost use Rattle.model.specs.Constants.{maxLipschitzConstant};
 ghost use Rattle.model.specs.State.{withU};
 ghost use Rattle.model.specs.Inner as I;
 ghost use Rattle.panoc_core.specs.Board.{Board, Sound, Takes, Comes, setOf, endOf, nextAt, iterateAt, stateAt, runOf, six, seven, nine, setU, setPlus, setGradient, setStep, setHalf, setFpr, setDirection};
-ghost use Rattle.panoc_core.specs.Rest.{retryOf};
+ghost use Rattle.panoc_core.specs.Rest.{retryOf, doublingAt};
 ghost use Rattle.matrix_operations.specs.Firsts.{firsts};
 use panoc_core::lipschitz_estimator::both_finite;
 use panoc_core::lipschitz_estimator::sigma_of;
@@ -20,28 +20,15 @@ use panoc_core::panoc_cache::Solve;
 use panoc_core::panoc_cache::Stepped;
 use panoc_core::panoc_cache::asks;
 use panoc_core::panoc_cache::stops;
+use panoc_core::panoc_steps::lipschitz_check_rhs;
 use panoc_core::panoc_steps::onward;
 
-// cost + 1e-6 × |cost| - (gradient · residual) + (0.95 / (2 × γ)) × norm × norm
-pub fn lipschitz_check_rhs(s: Solve, gradient: &[f64; 64], fpr: &[f64; 64]) -> f64
-    requires { ⌜ s .set .n ≤ 64 ⌝ }
-    ensures { λ r. ⌜ ((b : Board) → r ≡ I.ceiling binary64 (stateAt s (setGradient (now (gradient .entry)) (setFpr (now (fpr .entry)) b)))) ⌝ }
-{
-    let n = s.set.n;
-    let cost = s.numbers.cost_value;
-    let gamma = s.numbers.gamma;
-    let norm = s.numbers.norm_gamma_fpr;
-    let product = matrix_operations::inner_product(gradient, fpr, n);
-    cost + 1e-6 * numeric::abs(cost) - product + (0.95 / (2.0 * gamma)) * norm * norm
-}
-
 // Whether L is to be doubled: the half step's cost exceeds its ceiling, and L is below 1e9.
-pub fn exceeds(s: Solve, cost: f64, gradient: &[f64; 64], fpr: &[f64; 64]) -> bool
-    requires { ⌜ s .set .n ≤ 64 ⌝ }
-    ensures { λ r. ⌜ ((b : Board) → r ≡ (lt (I.ceiling binary64 (stateAt s (setGradient (now (gradient .entry)) (setFpr (now (fpr .entry)) b)))) cost && lt (s .numbers .«lipschitz_constant») (maxLipschitzConstant binary64))) ⌝ }
+pub fn exceeds(ceiling: f64, lipschitz: f64, cost: f64) -> bool
+    ensures { λ r. ⌜ r ≡ (lt ceiling cost && lt lipschitz (maxLipschitzConstant binary64)) ⌝ }
 {
-    if lipschitz_check_rhs(s, gradient, fpr) < cost {
-        s.numbers.lipschitz_constant < 1e9
+    if ceiling < cost {
+        lipschitz < 1e9
     } else {
         false
     }
@@ -58,24 +45,23 @@ pub fn ask_direction(s: Solve) -> Stepped
     asks(t, Phase::Direction, Question::Direction(s.forget))
 }
 
-// The doubling: another round while the half step's cost exceeds its ceiling, else DIRECTION.
+// The doubling: another round while the half step's cost exceeds its ceiling, which s keeps in rhs_ls, else DIRECTION.
 pub fn update_lipschitz_constant(
     s: Solve,
     cost: f64,
     u: &[f64; 64],
     gradient: &[f64; 64],
     step: &mut [f64; 64],
-    fpr: &[f64; 64],
 ) -> Stepped
     requires { ⌜ Sound s ⌝ }
-    ensures { λ r. ⌜ ((b : Board) → Comes (s .set) (I.doubling binary64 (setOf s) (s .rounds) (endOf s) (nextAt s) (s .forget) (stateAt s (setU (now (u .entry)) (setGradient (now (gradient .entry)) (setStep (now (step .entry)) (setFpr (now (fpr .entry)) b))))) cost) r (setU (now (u .entry)) (setGradient (now (gradient .entry)) (setStep (now (step .exit)) (setFpr (now (fpr .entry)) b))))) ⌝ }
+    ensures { λ r. ⌜ ((b : Board) → Comes (s .set) (doublingAt (setOf s) (endOf s) (nextAt s) (s .rounds) (s .forget) (s .numbers .«rhs_ls») (stateAt s (setU (now (u .entry)) (setGradient (now (gradient .entry)) (setStep (now (step .entry)) b)))) cost) r (setU (now (u .entry)) (setGradient (now (gradient .entry)) (setStep (now (step .exit)) b)))) ⌝ }
 {
     let n = s.set.n;
     let rounds = s.rounds;
     if rounds == 0 {
         return ask_direction(s);
     }
-    if exceeds(s, cost, gradient, fpr) {
+    if exceeds(s.numbers.rhs_ls, s.numbers.lipschitz_constant, cost) {
         let lipschitz = s.numbers.lipschitz_constant * 2.0;
         let gamma = s.numbers.gamma / 2.0;
         matrix_operations::less_times_into(u, gamma, gradient, step, n);
@@ -95,10 +81,9 @@ pub fn on_half_cost(
     u: &[f64; 64],
     gradient: &[f64; 64],
     step: &mut [f64; 64],
-    fpr: &[f64; 64],
 ) -> Stepped
     requires { ⌜ (Sound s) × (s .phase ≡ Phase.HalfCost) ⌝ }
-    ensures { λ r. ⌜ ((b : Board) → Takes s (setU (now (u .entry)) (setGradient (now (gradient .entry)) (setStep (now (step .entry)) (setFpr (now (fpr .entry)) b)))) (Reply.Number x) [] r (setU (now (u .entry)) (setGradient (now (gradient .entry)) (setStep (now (step .exit)) (setFpr (now (fpr .entry)) b))))) ⌝ }
+    ensures { λ r. ⌜ ((b : Board) → Takes s (setU (now (u .entry)) (setGradient (now (gradient .entry)) (setStep (now (step .entry)) b))) (Reply.Number x) [] r (setU (now (u .entry)) (setGradient (now (gradient .entry)) (setStep (now (step .exit)) b)))) ⌝ }
 {
     if numeric::is_finite(x) {
         let done = s.iterations;
@@ -106,7 +91,7 @@ pub fn on_half_cost(
         let mut t = s;
         t.rounds = 10;
         t.forget = first;
-        update_lipschitz_constant(t, x, u, gradient, step, fpr)
+        update_lipschitz_constant(t, x, u, gradient, step)
     } else {
         stops(s, 11)
     }
@@ -136,11 +121,14 @@ pub fn on_doubled_cost(
 {
     if numeric::is_finite(x) {
         let n = s.set.n;
-        let norm = matrix_operations::residual_into(u, half, fpr, n);
+        let sums = matrix_operations::residual_into(u, half, gradient, fpr, n);
+        let norm = sums.norm;
+        let rhs = lipschitz_check_rhs(s.numbers.cost_value, s.numbers.gamma, norm, sums.product);
         let mut t = s;
         t.numbers.norm_gamma_fpr = norm;
+        t.numbers.rhs_ls = rhs;
         t.forget = true;
-        update_lipschitz_constant(t, x, u, gradient, step, fpr)
+        update_lipschitz_constant(t, x, u, gradient, step)
     } else {
         stops(s, 12)
     }
@@ -153,9 +141,8 @@ pub fn envelope(s: Solve, gradient: &[f64; 64], step: &[f64; 64], half: &[f64; 6
 {
     let n = s.set.n;
     let gamma = s.numbers.gamma;
-    let gradient_squared = matrix_operations::norm2_squared(gradient, n);
-    let distance_squared = matrix_operations::norm2_squared_diff(step, half, n);
-    s.numbers.cost_value - 0.5 * gamma * gradient_squared + 0.5 * distance_squared / gamma
+    let sums = matrix_operations::envelope_sums(gradient, step, half, n);
+    s.numbers.cost_value - 0.5 * gamma * sums.gradient_squared + 0.5 * sums.distance_squared / gamma
 }
 
 // A later step's move begins: what a candidate is held to, and the candidate for τ = 1.

@@ -17,7 +17,7 @@ enum-told-2 : tie.Need-enum-told-2
 enum-told-2 c = search needs
 
 on-half-cost-requires : tie.Need-on-half-cost-requires
-on-half-cost-requires c κs = (wanted-sound (c .before .before .before .before .args .s) Kind.number (c .before .before .before .before .pre), c .before .before .enum-told2 .given .1)
+on-half-cost-requires c κs = (wanted-sound (c .before .before .before .args .s) Kind.number (c .before .before .before .pre), c .before .enum-told2 .given .1)
 
 enum-told-3 : tie.Need-enum-told-3
 enum-told-3 c = search needs
@@ -113,7 +113,7 @@ returns : tie.Need-returns
 returns c = λ b. c .on-cost .ensures (five (c .before .before .before .args .u .now) (c .before .before .before .args .gradient .now) (c .before .before .before .args .step .now) (c .before .before .before .args .half .now) (c .before .before .before .args .fpr .now) b)
 
 returns-2 : tie.Need-returns-2
-returns-2 c = λ b. c .on-half-cost .ensures (five (c .before .before .before .before .before .args .u .now) (c .before .before .before .before .before .args .gradient .now) (c .before .before .before .before .before .args .step .now) (c .before .before .before .before .before .args .half .now) (c .before .before .before .before .before .args .fpr .now) b)
+returns-2 c = λ b. c .on-half-cost .ensures (five (c .before .before .before .before .args .u .now) (c .before .before .before .before .args .gradient .now) (c .before .before .before .before .args .step .now) (c .before .before .before .before .args .half .now) (c .before .before .before .before .args .fpr .now) b)
 
 returns-3 : tie.Need-returns-3
 returns-3 c = λ b. c .on-doubled-cost .ensures (five (c .before .before .before .before .before .args .u .now) (c .before .before .before .before .before .args .gradient .now) (c .before .before .before .before .before .args .step .now) (c .before .before .before .before .before .args .half .now) (c .before .before .before .before .before .args .fpr .now) b)

@@ -1,5 +1,4 @@
 use Rattle.panoc_core.specs.Rest.{sound}
-use mathlib.Core.Path.{sym, _∙_}
 use Rattle.panoc_core.specs.Laws.{sound-n, step-asks, step-ends}
 use Rattle.panoc_core.specs.Board.{six}
 use borrow.Author.Needs.{needs}
@@ -22,14 +21,17 @@ finish-requires : tie.Need-finish-requires
 unfolding sound
 finish-requires c κs = c .before .before .before .before .before .before .before .before .before .before .before .before .before .before .pre
 
+lipschitz-check-rhs-requires : tie.Need-lipschitz-check-rhs-requires
+lipschitz-check-rhs-requires c κs = search needs
+
 asks-requires : tie.Need-asks-requires
 asks-requires c κs = search needs
 
 returns : tie.Need-returns
-returns c = λ b. step-ends (c .before .before .before .before .before .before .before .before .before .before .before .before .before .before .before .args .s) (six (c .before .before .before .before .before .before .before .before .before .before .before .before .before .before .before .args .u .now) (c .before .before .before .before .before .before .before .before .before .before .before .before .before .before .before .args .gradient .now) (c .before .before .before .before .before .before .before .before .before .before .before .before .before .before .before .args .previous .now) (c .before .before .before .before .before .before .before .before .before .before .before .before .before .before .before .args .half .now) (c .before .before .before .before .before .before .before .before .before .before .before .before .before .before .before .args .fpr .now) (c .before .before .before .before .before .before .before .before .before .before .before .before .before .before .before .args .best .now) b) (c .before .before .before .before .before .before .before .before .before .before .before .before .before .before .before .pre) _ _ _ _ _ (c .before .before .before .before .before .before .before .before .before .before .before .before .cache-previous-gradient .ensures) (c .before .before .before .before .before .before .before .before .before .before .residual-into .ensures .0) (c .before .before .before .before .before .before .before .before .before .before .residual-into .ensures .1) (c .before .before .before .before .before .before .before .before .cache-best-half-step .ensures) _ _ (c .before .before .before .exit-condition .ensures) _ (c .before .before .if1 .taken) (c .finish .ensures)
+returns c = λ b. step-ends (c .before .before .before .before .before .before .before .before .before .before .before .before .before .before .before .args .s) (six (c .before .before .before .before .before .before .before .before .before .before .before .before .before .before .before .args .u .now) (c .before .before .before .before .before .before .before .before .before .before .before .before .before .before .before .args .gradient .now) (c .before .before .before .before .before .before .before .before .before .before .before .before .before .before .before .args .previous .now) (c .before .before .before .before .before .before .before .before .before .before .before .before .before .before .before .args .half .now) (c .before .before .before .before .before .before .before .before .before .before .before .before .before .before .before .args .fpr .now) (c .before .before .before .before .before .before .before .before .before .before .before .before .before .before .before .args .best .now) b) (c .before .before .before .before .before .before .before .before .before .before .before .before .before .before .before .pre) _ _ _ _ _ (c .before .before .before .before .before .before .before .before .before .before .before .before .cache-previous-gradient .ensures) (c .before .before .before .before .before .before .before .before .before .before .residual-into .ensures .0) (c .before .before .before .before .before .before .before .before .before .before .residual-into .ensures .1 .0) (c .before .before .before .before .before .before .before .before .cache-best-half-step .ensures) _ _ (c .before .before .before .exit-condition .ensures) _ (c .before .before .if1 .taken) (c .finish .ensures)
 
 returns-2 : tie.Need-returns-2
-returns-2 c = λ b. step-asks (c .before .before .before .before .before .before .before .before .before .before .before .before .before .before .args .s) (six (c .before .before .before .before .before .before .before .before .before .before .before .before .before .before .args .u .now) (c .before .before .before .before .before .before .before .before .before .before .before .before .before .before .args .gradient .now) (c .before .before .before .before .before .before .before .before .before .before .before .before .before .before .args .previous .now) (c .before .before .before .before .before .before .before .before .before .before .before .before .before .before .args .half .now) (c .before .before .before .before .before .before .before .before .before .before .before .before .before .before .args .fpr .now) (c .before .before .before .before .before .before .before .before .before .before .before .before .before .before .args .best .now) b) (c .before .before .before .before .before .before .before .before .before .before .before .before .before .before .pre) _ _ _ _ _ (c .before .before .before .before .before .before .before .before .before .before .before .cache-previous-gradient .ensures) (c .before .before .before .before .before .before .before .before .before .residual-into .ensures .0) (c .before .before .before .before .before .before .before .before .before .residual-into .ensures .1) (c .before .before .before .before .before .before .before .cache-best-half-step .ensures) _ _ (c .before .before .exit-condition .ensures) (c .before .if1 .left) (c .asks .ensures)
+returns-2 c = λ b. step-asks (c .before .before .before .before .before .before .before .before .before .before .before .before .before .before .before .before .args .s) (six (c .before .before .before .before .before .before .before .before .before .before .before .before .before .before .before .before .args .u .now) (c .before .before .before .before .before .before .before .before .before .before .before .before .before .before .before .before .args .gradient .now) (c .before .before .before .before .before .before .before .before .before .before .before .before .before .before .before .before .args .previous .now) (c .before .before .before .before .before .before .before .before .before .before .before .before .before .before .before .before .args .half .now) (c .before .before .before .before .before .before .before .before .before .before .before .before .before .before .before .before .args .fpr .now) (c .before .before .before .before .before .before .before .before .before .before .before .before .before .before .before .before .args .best .now) b) (c .before .before .before .before .before .before .before .before .before .before .before .before .before .before .before .before .pre) _ _ _ _ _ (c .before .before .before .before .before .before .before .before .before .before .before .before .before .cache-previous-gradient .ensures) (c .before .before .before .before .before .before .before .before .before .before .before .residual-into .ensures .0) (c .before .before .before .before .before .before .before .before .before .before .before .residual-into .ensures .1 .0) (c .before .before .before .before .before .before .before .before .before .cache-best-half-step .ensures) _ _ (c .before .before .before .before .exit-condition .ensures) _ _ (c .before .before .before .before .before .before .before .before .before .before .before .residual-into .ensures .1 .1) (c .before .before .lipschitz-check-rhs .ensures) (c .before .before .before .if1 .left) (c .asks .ensures)
 
 pub step-spec : {M : Type 1} → statement M
 step-spec =
@@ -40,6 +42,7 @@ step-spec =
     cache-best-half-step-requires
     exit-condition-requires
     finish-requires
+    lipschitz-check-rhs-requires
     asks-requires
     returns
     returns-2)
