@@ -17,5 +17,5 @@ fn main() {
         folder.join("libpozkerrin.a").display()
     );
     println!("cargo:rustc-link-search=native={}", folder.display());
-    println!("cargo:rustc-link-lib=static=host");
+    println!("cargo:rustc-link-lib=static=pozkerrin");
 }
