@@ -3,7 +3,7 @@ ghost use mathlib.Core.Path.{_≡_};
 ghost use Rattle.panoc_core.specs.Board.{Board, Begins, before, after, runOf, gave, setU, asked};
 ghost use Rattle.panoc.specs.Calls.{Points};
 ghost use Rattle.image.specs.Image.{settingsGiven, solveOf, stepOf};
-ghost use Rattle.host.specs.Exports.{InnerExported};
+ghost use Rattle.host.specs.Exports.{Exported};
 use image::kinds::reply_of;
 use image::solve::begin;
 use image::solve::keep;
@@ -73,7 +73,7 @@ pub extern "C" fn pozkerrin_inner_answer(
     direction: &mut [f64; 64],
     best: &mut [f64; 64],
 ) -> u32
-    ensures { λ r. ⌜ InnerExported kind x code (now (v .entry)) (now (plan .entry)) (now (plan .exit)) (runOf (solveOf (now (w .entry)) (now (k .entry)) (now (f .entry))) (before u plus gradient previous step half fpr direction best)) (gave (stepOf r (now (w .exit)) (now (k .exit)) (now (f .exit))) (after u plus gradient previous step half fpr direction best)) ⌝ }
+    ensures { λ r. ⌜ Exported kind x code (now (v .entry)) (now (plan .entry)) (now (plan .exit)) (runOf (solveOf (now (w .entry)) (now (k .entry)) (now (f .entry))) (before u plus gradient previous step half fpr direction best)) (gave (stepOf r (now (w .exit)) (now (k .exit)) (now (f .exit))) (after u plus gradient previous step half fpr direction best)) ⌝ }
 {
     let s = solve_of(w, k, f);
     if 4 < kind {

@@ -3,9 +3,11 @@ use Prim.Native.Nat.{ℕ}
 use mathlib.Core.Path.{_≡_}
 use mathlib.Core.Bool.{Bool, true, false, not, cond}
 use mathlib.Core.List.{List, [], _∷_}
+use mathlib.Core.Option.{Option, none, some}
 use lib.Dec.{eqb}
 use lib.Ieee.{Float, binary64, nan, ofBits}
 use lib.ListN.{getD}
+use Rattle.model.specs.Process.{Kind}
 use Rattle.panoc_core.specs.declared.panoc_cache.AkktTolerance.{AkktTolerance}
 use Rattle.panoc_core.specs.declared.panoc_cache.AkktTolerance.the-variants.{Missing, Set}
 use Rattle.panoc_core.specs.declared.panoc_cache.ExitStatus.{ExitStatus}
@@ -101,6 +103,11 @@ replies x = Number x ∷ Vector ∷ Yes ∷ No ∷ []
 
 abbrev pub replyOf : ℕ → Float → ℕ → Reply
 replyOf kind x code = getD (replies x) kind (Failure code)
+
+-- the table's number for an answer of no kind: 6 where the run has ended, else 7
+abbrev pub strange : Option Kind → ℕ
+strange none = 6
+strange (some k) = 7
 
 -- ---- the small part of an inner solve: w, k and f are the lent numbers
 

@@ -1,8 +1,11 @@
 -- Kinds as numbers, there and back. Assumes nothing.
 use Prim.Native.Nat.{ℕ, _+_, _≤_}
 use mathlib.Core.Path.{_≡_, refl}
-use mathlib.Core.Bool.{Bool, true, false}
+use mathlib.Core.Bool.{Bool, true, false, cond}
+use mathlib.Core.Option.{Option, none, some}
 use native.Mathlib.Omega.{arith}
+use Rattle.model.specs.Process.{Kind}
+use Rattle.panoc_core.specs.Board.{waiting}
 use Rattle.panoc_core.specs.declared.panoc_cache.AkktTolerance.{AkktTolerance}
 use Rattle.panoc_core.specs.declared.panoc_cache.AkktTolerance.the-variants.{Missing, Set}
 use Rattle.panoc_core.specs.declared.panoc_cache.ExitStatus.{ExitStatus}
@@ -11,7 +14,7 @@ use Rattle.panoc_core.specs.declared.panoc_cache.Phase.{Phase}
 use Rattle.panoc_core.specs.declared.panoc_cache.Phase.the-variants as P
 use Rattle.panoc_core.specs.declared.panoc_cache.Question.{Question}
 use Rattle.panoc_core.specs.declared.panoc_cache.Question.the-variants as Q
-use Rattle.image.specs.Image.{phaseOf, phaseNumber, statusOf, statusNumber, flagOf, flagNumber, akktOf, akktSet, akktValue, questionOf, questionNumber}
+use Rattle.image.specs.Image.{phaseOf, phaseNumber, statusOf, statusNumber, flagOf, flagNumber, akktOf, akktSet, akktValue, questionOf, questionNumber, strange}
 
 -- a number from k on that is not k
 pub above : (k p : ℕ) → k ≤ p → (p ≡ k → ⊥) → k + 1 ≤ p
@@ -57,3 +60,8 @@ question-round Q.Project = refl
 question-round (Q.Direction true) = refl
 question-round (Q.Direction false) = refl
 question-round Q.Time = refl
+
+-- the number of an answer of no kind, by whether the run waits
+pub strange-round : (o : Option Kind) → cond (waiting o) 7 6 ≡ strange o
+strange-round none = refl
+strange-round (some k) = refl

@@ -1,5 +1,5 @@
 use Rattle.image.specs.Stored.{stored-as}
-use Rattle.host.proofs.InnerLaws.{answered-set, answered-as, malformed-as}
+use Rattle.host.proofs.Laws.{answered-set, answered-as, malformed-as}
 use borrow.Author.Needs.{needs}
 use Rattle.host.proofs.inner.pozkerrin_inner_answer.Statement.{statement}
 use Rattle.host.proofs.inner.pozkerrin_inner_answer.Tie as tie

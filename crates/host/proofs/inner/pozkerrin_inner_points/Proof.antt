@@ -1,4 +1,4 @@
-use Rattle.host.proofs.InnerLaws.{points-as}
+use Rattle.host.proofs.Laws.{points-as}
 use borrow.Author.Needs.{needs}
 use Rattle.host.proofs.inner.pozkerrin_inner_points.Statement.{statement}
 use Rattle.host.proofs.inner.pozkerrin_inner_points.Tie as tie

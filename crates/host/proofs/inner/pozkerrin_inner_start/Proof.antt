@@ -1,5 +1,5 @@
 use Rattle.image.specs.Stored.{stored-as}
-use Rattle.host.proofs.InnerLaws.{begun-set, begins-as}
+use Rattle.host.proofs.Laws.{begun-set, begins-as}
 use borrow.Author.Needs.{needs}
 use Rattle.host.proofs.inner.pozkerrin_inner_start.Statement.{statement}
 use Rattle.host.proofs.inner.pozkerrin_inner_start.Tie as tie

@@ -1,0 +1,122 @@
+// What a lent loop waits for, read off its numbers without taking the run apart.
+ghost use mathlib.Core.Path.{_≡_};
+ghost use Rattle.panoc_core.specs.Values.{kindOf};
+ghost use Rattle.alm_core.specs.Rest.{sized, counts, sound};
+ghost use Rattle.alm.specs.LoopCalls.{wantedOf};
+ghost use Rattle.alm_image.specs.AlmImage.{almOf};
+use crate::kinds::alm_phase_of;
+use alm_core::alm_cache::AlmPhase;
+use image::solve::solve_of;
+use panoc_core::refusals::Wanted;
+
+// Sizes as document 01 has them.
+pub fn is_sized(
+    w: &[u32; 6],
+    k: &[usize; 6],
+    f: &[f64; 13],
+    lw: &[u32; 4],
+    lk: &[usize; 10],
+    lf: &[f64; 17],
+) -> bool
+    ensures { λ r. ⌜ r ≡ sized (almOf (now (w .entry)) (now (k .entry)) (now (f .entry)) (now (lw .entry)) (now (lk .entry)) (now (lf .entry))) ⌝ }
+{
+    if 64 < lk[4] {
+        return false;
+    }
+    if 32 < lk[5] {
+        return false;
+    }
+    if 32 < lk[6] {
+        return false;
+    }
+    lk[7] <= 10000
+}
+
+// Counters in range, and an inner run of the same n.
+pub fn is_counted(
+    w: &[u32; 6],
+    k: &[usize; 6],
+    f: &[f64; 13],
+    lw: &[u32; 4],
+    lk: &[usize; 10],
+    lf: &[f64; 17],
+) -> bool
+    ensures { λ r. ⌜ r ≡ counts (almOf (now (w .entry)) (now (k .entry)) (now (f .entry)) (now (lw .entry)) (now (lk .entry)) (now (lf .entry))) ⌝ }
+{
+    let left = lk[0];
+    let outer = lk[1];
+    if 999 < left {
+        return false;
+    }
+    if 999 - left < outer {
+        return false;
+    }
+    if 10000 * outer < lk[2] {
+        return false;
+    }
+    if 10000 < lk[3] {
+        return false;
+    }
+    k[3] == lk[4]
+}
+
+// A run that no start made counts as one that has ended.
+pub fn is_sound(
+    w: &[u32; 6],
+    k: &[usize; 6],
+    f: &[f64; 13],
+    lw: &[u32; 4],
+    lk: &[usize; 10],
+    lf: &[f64; 17],
+) -> bool
+    ensures { λ r. ⌜ r ≡ sound (almOf (now (w .entry)) (now (k .entry)) (now (f .entry)) (now (lw .entry)) (now (lk .entry)) (now (lf .entry))) ⌝ }
+{
+    let phase = alm_phase_of(lw[0]);
+    if is_sized(w, k, f, lw, lk, lf) {
+        match phase {
+            AlmPhase::LastCost => true,
+            AlmPhase::Time => is_counted(w, k, f, lw, lk, lf),
+            AlmPhase::ProjectY => is_counted(w, k, f, lw, lk, lf),
+            AlmPhase::Inner => is_counted(w, k, f, lw, lk, lf),
+            AlmPhase::F1 => is_counted(w, k, f, lw, lk, lf),
+            AlmPhase::ProjectC => is_counted(w, k, f, lw, lk, lf),
+            AlmPhase::F2 => is_counted(w, k, f, lw, lk, lf),
+            AlmPhase::Over => is_counted(w, k, f, lw, lk, lf),
+        }
+    } else {
+        false
+    }
+}
+
+// What the run waits for.
+pub fn wants(
+    w: &[u32; 6],
+    k: &[usize; 6],
+    f: &[f64; 13],
+    lw: &[u32; 4],
+    lk: &[usize; 10],
+    lf: &[f64; 17],
+) -> Wanted
+    ensures { λ r. ⌜ kindOf r ≡ wantedOf (almOf (now (w .entry)) (now (k .entry)) (now (f .entry)) (now (lw .entry)) (now (lk .entry)) (now (lf .entry))) ⌝ }
+{
+    let phase = alm_phase_of(lw[0]);
+    let n1 = lk[5];
+    let n2 = lk[6];
+    if is_sound(w, k, f, lw, lk, lf) {
+        match phase {
+            AlmPhase::Time => Wanted::Decision,
+            AlmPhase::ProjectY => Wanted::Vector(n1),
+            AlmPhase::Inner => {
+                let solve = solve_of(w, k, f);
+                panoc::panoc_answers::wants(solve)
+            }
+            AlmPhase::F1 => Wanted::Vector(n1),
+            AlmPhase::ProjectC => Wanted::Vector(n1),
+            AlmPhase::F2 => Wanted::Vector(n2),
+            AlmPhase::LastCost => Wanted::Number,
+            AlmPhase::Over => Wanted::Nothing,
+        }
+    } else {
+        Wanted::Nothing
+    }
+}
