@@ -16,9 +16,9 @@ if ! command -v "$cc" >/dev/null; then
   exit 2
 fi
 
-archive=${ARCHIVE:-target/staticlib/libhost.a}
-if [ -z "${ARCHIVE:-}" ] && ! rt staticlib host >"$out/staticlib.log" 2>&1; then
-  tail -n 20 "$out/staticlib.log" >&2
+archive=${ARCHIVE:-target/staticlib/libpozkerrin.a}
+if [ -z "${ARCHIVE:-}" ] && ! bash crates/host/archive.sh >"$out/archive.log" 2>&1; then
+  tail -n 20 "$out/archive.log" >&2
   exit 1
 fi
 

@@ -1,4 +1,4 @@
-//! Links the archive that `rt staticlib host` writes; POZKERRIN_ARCHIVES names another folder.
+//! Links the archive that `crates/host/archive.sh` writes; POZKERRIN_ARCHIVES names another folder.
 
 use std::env;
 use std::path::PathBuf;
@@ -14,8 +14,8 @@ fn main() {
     );
     println!(
         "cargo:rerun-if-changed={}",
-        folder.join("libhost.a").display()
+        folder.join("libpozkerrin.a").display()
     );
     println!("cargo:rustc-link-search=native={}", folder.display());
-    println!("cargo:rustc-link-lib=static=host");
+    println!("cargo:rustc-link-lib=static=pozkerrin");
 }
