@@ -17,8 +17,8 @@ if ! command -v "$cc" >/dev/null; then
 fi
 
 archive=${ARCHIVE:-target/staticlib/libpozkerrin.a}
-if [ -z "${ARCHIVE:-}" ] && ! bash crates/host/archive.sh >"$out/staticlib.log" 2>&1; then
-  tail -n 20 "$out/staticlib.log" >&2
+if [ -z "${ARCHIVE:-}" ] && ! bash crates/host/archive.sh >"$out/archive.log" 2>&1; then
+  tail -n 20 "$out/archive.log" >&2
   exit 1
 fi
 

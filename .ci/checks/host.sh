@@ -12,9 +12,13 @@ if [ "$(uname -m)" != x86_64 ]; then
   echo "host: not run, since 'rt staticlib' writes for x86-64 and this is $(uname -m)"
   exit 0
 fi
+if ! command -v ar >/dev/null; then
+  echo "host: not run, since there is no ar here to put the archive together"
+  exit 0
+fi
 mkdir -p "$out"
-if ! bash crates/host/archive.sh >"$out/staticlib.log" 2>&1; then
-  tail -n 20 "$out/staticlib.log"
+if ! bash crates/host/archive.sh >"$out/archive.log" 2>&1; then
+  tail -n 20 "$out/archive.log"
   exit 1
 fi
 
