@@ -4,10 +4,10 @@ ghost use Rattle.factory.specs.FactoryBoard.{DPsiBoard, dPsiRunOf, dPsiGave, dP
 ghost use Rattle.factory.specs.FactoryCalls.{DPsiStarts, DPsiAnswers, Points};
 ghost use Rattle.factory.specs.FactoryRest.{dPsiRest};
 ghost use Rattle.psi_image.specs.PsiImage.{replyOf, dPsiOf, dPsiStepOf};
-use factory::alm_factory::Sizes;
 use d_psi::answer_in_place;
 use d_psi::points_in_place;
 use d_psi::start_in_place;
+use factory::alm_factory::Sizes;
 use psi_image::d_psi::d_psi_of;
 use psi_image::d_psi::keep_d_psi;
 use psi_image::d_psi::tell_d_psi;
