@@ -30,16 +30,16 @@ use panoc_core::panoc_cache::InnerIterations;
 use panoc_core::panoc_cache::Reply;
 use panoc_core::panoc_cache::Settings;
 use panoc_core::refusals::refusal;
-use starts::factor_right;
-use starts::fraction_right;
-use starts::limit_right;
-use starts::mappings_right;
-use starts::multipliers_in;
-use starts::penalty_in;
-use starts::sizes_right;
-use starts::tolerance_right;
-use starts::xi_fits;
-use starts::xi_right;
+use start_tests::factor_right;
+use start_tests::fraction_right;
+use start_tests::limit_right;
+use start_tests::mappings_right;
+use start_tests::multipliers_in;
+use start_tests::penalty_in;
+use start_tests::sizes_right;
+use start_tests::tolerance_right;
+use start_tests::xi_fits;
+use start_tests::xi_right;
 
 // Whether the lent u and xi have the lengths asked.
 pub fn lent_fits(set: AlmSettings, us: usize, places: usize) -> bool

@@ -1,8 +1,8 @@
 use native.Mathlib.Omega.{arith}
-use Rattle.starts.specs.StartLaws.{multipliers-none, multipliers-some}
+use Rattle.start_tests.specs.StartLaws.{multipliers-none, multipliers-some}
 use borrow.Author.Needs.{needs}
-use Rattle.starts.proofs.multipliers_in.Statement.{statement}
-use Rattle.starts.proofs.multipliers_in.Tie as tie
+use Rattle.start_tests.proofs.multipliers_in.Statement.{statement}
+use Rattle.start_tests.proofs.multipliers_in.Tie as tie
 
 returns : tie.Need-returns
 returns c = multipliers-none (c .before .before .args .xi .now) _ (c .if1 .taken)

@@ -1,7 +1,7 @@
-use Rattle.starts.specs.StartLaws.{xi-right-empty, xi-right-is, xi-right-not}
+use Rattle.start_tests.specs.StartLaws.{xi-right-empty, xi-right-is, xi-right-not}
 use borrow.Author.Needs.{needs}
-use Rattle.starts.proofs.xi_right.Statement.{statement}
-use Rattle.starts.proofs.xi_right.Tie as tie
+use Rattle.start_tests.proofs.xi_right.Statement.{statement}
+use Rattle.start_tests.proofs.xi_right.Tie as tie
 
 returns : tie.Need-returns
 returns c = xi-right-empty _ (c .if1 .taken)

@@ -1,7 +1,7 @@
-use Rattle.starts.specs.StartLaws.{factor-is, factor-not}
+use Rattle.start_tests.specs.StartLaws.{factor-is, factor-not}
 use borrow.Author.Needs.{needs}
-use Rattle.starts.proofs.factor_right.Statement.{statement}
-use Rattle.starts.proofs.factor_right.Tie as tie
+use Rattle.start_tests.proofs.factor_right.Statement.{statement}
+use Rattle.start_tests.proofs.factor_right.Tie as tie
 
 is-finite-requires : tie.Need-is-finite-requires
 is-finite-requires c κs = search needs
