@@ -15,7 +15,6 @@ ghost use Rattle.host_loop.specs.Exports.{Accepted, HandsOut, asksOn, as
 use alm::alm_answers::take_own;
 use alm::alm_optimizer::hand_out;
 use alm::alm_optimizer::hand_out_xi;
-use alm::alm_optimizer::xi_fits;
 use alm_core::alm_cache::AlmStepped;
 use alm_core::alm_steps::on_inner;
 use alm_image::lent::alm_of;
@@ -29,6 +28,7 @@ use panoc_answers::take;
 use panoc_core::panoc_cache::Outcome;
 use panoc_core::panoc_cache::Reply;
 use panoc_core::refusals::Wanted;
+use start_tests::xi_fits;
 
 // Whether anything is wanted.
 pub fn waits(wanted: Wanted) -> bool
