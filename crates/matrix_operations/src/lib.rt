@@ -26,6 +26,14 @@ pub struct EnvelopeSums {
     pub distance_squared: f64,
 }
 
+// The sums of a candidate: those of its envelope, and those of its residual.
+pub struct CandidateSums {
+    pub gradient_squared: f64,
+    pub distance_squared: f64,
+    pub norm_squared: f64,
+    pub product: f64,
+}
+
 // An array of 64 has 64 places. A leaf that writes calls this once: the checker gives no length for a lent array.
 pub fn sized(a: &[f64; 64]) -> usize
     ensures { λ r. ⌜ length (now (a .entry)) ≡ 64 ⌝ }
@@ -216,25 +224,134 @@ pub fn norm2_squared_diff(a: &[f64; 64], b: &[f64; 64], n: usize) -> f64
     s
 }
 
-// The sum of the squares of g and that of a - b, in one loop: neither waits for the other.
-pub fn envelope_sums(g: &[f64; 64], a: &[f64; 64], b: &[f64; 64], n: usize) -> EnvelopeSums
-    requires { ⌜ n ≤ 64 ⌝ }
-    ensures gradient { λ r. ⌜ r .«gradient_squared» ≡ squares binary64 (firsts n (now (g .entry))) ⌝ }
-    ensures distance { λ r. ⌜ r .«distance_squared» ≡ squares binary64 (minus binary64 (firsts n (now (a .entry))) (firsts n (now (b .entry)))) ⌝ }
+// g = v and r = x - γ × v, in one loop; whether every entry of v is finite is returned.
+pub fn gradient_into(
+    v: &[f64],
+    gamma: f64,
+    x: &[f64; 64],
+    g: &mut [f64; 64],
+    r: &mut [f64; 64],
+) -> bool
+    requires { ⌜ length (now v) ≤ 64 ⌝ }
+    ensures gradient { λ _. ⌜ firsts (length (now (v .entry))) (now (g .exit)) ≡ now (v .entry) ⌝ }
+    ensures step { λ _. ⌜ firsts (length (now (v .entry))) (now (r .exit)) ≡ lessTimes binary64 gamma (firsts (length (now (v .entry))) (now (x .entry))) (now (v .entry)) ⌝ }
+    ensures finite { λ b. ⌜ b ≡ allFinite (now (v .entry)) ⌝ }
 {
+    let _ = sized(g);
+    let _ = sized(r);
+    let n = v.len();
+    let mut ok = true;
+    let mut i = 0;
+    while i < n {
+        let y = v[i];
+        let t = gamma * y;
+        ok = ok & numeric::is_finite(y);
+        g[i] = y;
+        r[i] = x[i] - t;
+        i += 1;
+    }
+    ok
+}
+
+// d = v and w = u - (1 - τ) × r - τ × v for τ = 1, in one loop with the two sums of the envelope, of g and of a - b.
+pub fn line_into(
+    v: &[f64],
+    u: &[f64; 64],
+    r: &[f64; 64],
+    g: &[f64; 64],
+    a: &[f64; 64],
+    b: &[f64; 64],
+    d: &mut [f64; 64],
+    w: &mut [f64; 64],
+) -> EnvelopeSums
+    requires { ⌜ length (now v) ≤ 64 ⌝ }
+    ensures direction { λ _. ⌜ firsts (length (now (v .entry))) (now (d .exit)) ≡ now (v .entry) ⌝ }
+    ensures candidate { λ _. ⌜ firsts (length (now (v .entry))) (now (w .exit)) ≡ lessTimes binary64 (one binary64) (lessTimes binary64 (sub binary64 (one binary64) (one binary64)) (firsts (length (now (v .entry))) (now (u .entry))) (firsts (length (now (v .entry))) (now (r .entry)))) (now (v .entry)) ⌝ }
+    ensures gradient { λ s. ⌜ s .«gradient_squared» ≡ squares binary64 (firsts (length (now (v .entry))) (now (g .entry))) ⌝ }
+    ensures distance { λ s. ⌜ s .«distance_squared» ≡ squares binary64 (minus binary64 (firsts (length (now (v .entry))) (now (a .entry))) (firsts (length (now (v .entry))) (now (b .entry)))) ⌝ }
+{
+    let _ = sized(d);
+    let _ = sized(w);
+    let n = v.len();
+    let tau = 1.0;
+    let other = 1.0 - tau;
     let mut s = 0.0;
     let mut t = 0.0;
     let mut i = 0;
     while i < n {
+        let x = v[i];
         let y = g[i];
-        let d = a[i] - b[i];
+        let z = a[i] - b[i];
+        let k = other * r[i];
+        let m = tau * x;
         s = s + y * y;
-        t = t + d * d;
+        t = t + z * z;
+        d[i] = x;
+        w[i] = u[i] - k - m;
         i += 1;
     }
     EnvelopeSums {
         gradient_squared: s,
         distance_squared: t,
+    }
+}
+
+// h = v, in one loop with the sums of a candidate w: the squares of g, of a - v and of w - v, and the products of g and w - v.
+pub fn candidate_sums_into(
+    v: &[f64],
+    g: &[f64; 64],
+    a: &[f64; 64],
+    w: &[f64; 64],
+    h: &mut [f64; 64],
+) -> CandidateSums
+    requires { ⌜ length (now v) ≤ 64 ⌝ }
+    ensures half { λ _. ⌜ firsts (length (now (v .entry))) (now (h .exit)) ≡ now (v .entry) ⌝ }
+    ensures gradient { λ s. ⌜ s .«gradient_squared» ≡ squares binary64 (firsts (length (now (v .entry))) (now (g .entry))) ⌝ }
+    ensures distance { λ s. ⌜ s .«distance_squared» ≡ squares binary64 (minus binary64 (firsts (length (now (v .entry))) (now (a .entry))) (now (v .entry))) ⌝ }
+    ensures size { λ s. ⌜ s .«norm_squared» ≡ squares binary64 (minus binary64 (firsts (length (now (v .entry))) (now (w .entry))) (now (v .entry))) ⌝ }
+    ensures product { λ s. ⌜ s .product ≡ dot binary64 (firsts (length (now (v .entry))) (now (g .entry))) (minus binary64 (firsts (length (now (v .entry))) (now (w .entry))) (now (v .entry))) ⌝ }
+{
+    let _ = sized(h);
+    let n = v.len();
+    let mut p = 0.0;
+    let mut q = 0.0;
+    let mut s = 0.0;
+    let mut t = 0.0;
+    let mut i = 0;
+    while i < n {
+        let x = v[i];
+        let y = g[i];
+        let z = a[i] - x;
+        let e = w[i] - x;
+        p = p + y * y;
+        q = q + z * z;
+        s = s + e * e;
+        t = t + y * e;
+        h[i] = x;
+        i += 1;
+    }
+    CandidateSums {
+        gradient_squared: p,
+        distance_squared: q,
+        norm_squared: s,
+        product: t,
+    }
+}
+
+// u = w and r = w - h, in one loop.
+pub fn adopt_into(w: &[f64; 64], h: &[f64; 64], u: &mut [f64; 64], r: &mut [f64; 64], n: usize)
+    requires { ⌜ n ≤ 64 ⌝ }
+    ensures point { λ _. ⌜ firsts n (now (u .exit)) ≡ firsts n (now (w .entry)) ⌝ }
+    ensures residual { λ _. ⌜ firsts n (now (r .exit)) ≡ minus binary64 (firsts n (now (w .entry))) (firsts n (now (h .entry))) ⌝ }
+{
+    let _ = sized(u);
+    let _ = sized(r);
+    let mut i = 0;
+    while i < n {
+        let x = w[i];
+        u[i] = x;
+        r[i] = x - h[i];
+        i += 1;
     }
 }
 
