@@ -14,35 +14,30 @@ static void stop(const char *what, uint32_t number) {
 void library_inner(const callbacks *c, const task *t, result *r, size_t *asked) {
   static pkr_inner run;
   const pkr_inner_settings s = {.n = t->n, .max_iter = t->max_inner, .tolerance = t->tolerance};
-  double at[64], u[64], v[64];
+  double v[64];
   const size_t n = t->n;
   uint32_t got = pkr_inner_start(&run, &s, t->u, n);
   while (got == PKR_ASKED) {
     const uint32_t question = pkr_inner_told(&run);
-    uint32_t refused;
+    const double *at = pkr_inner_point(&run);
     if (asked) asked[question]++;
     switch (question) {
       case PKR_COST:
-        refused = pkr_inner_points(&run, at, n, u, 0);
         got = pkr_inner_number(&run, c->cost(at, n), r->plan, n);
         break;
       case PKR_GRADIENT:
-        refused = pkr_inner_points(&run, at, n, u, 0);
         c->gradient(at, v, n);
         got = pkr_inner_vector(&run, v, n, r->plan, n);
         break;
       case PKR_PROJECT:
-        refused = pkr_inner_points(&run, at, n, u, 0);
         c->project(at, v, n);
         got = pkr_inner_vector(&run, v, n, r->plan, n);
         break;
       default: /* DIRECTION, with or without forgetting */
-        refused = pkr_inner_points(&run, at, n, u, n);
-        c->direction(question == PKR_DIRECTION_FORGET, at, u, v, n);
+        c->direction(question == PKR_DIRECTION_FORGET, at, pkr_inner_u(&run), v, n);
         got = pkr_inner_vector(&run, v, n, r->plan, n);
         break;
     }
-    if (refused) stop("points refused", refused);
   }
   if (got != PKR_ENDED) stop("inner solve refused", pkr_inner_told(&run));
   r->end = pkr_inner_told(&run);

@@ -138,6 +138,7 @@ uint32_t pozkerrin_inner_answer(pkr_w6 *w, pkr_k6 *k, pkr_f13 *f, uint32_t kind,
 uint32_t pozkerrin_inner_points(const pkr_w6 *w, const pkr_k6 *k, const pkr_f13 *f, double *first, size_t firsts, double *second,
     size_t seconds, const pkr_vector *u, const pkr_vector *u_plus, const pkr_vector *step, const pkr_vector *half,
     const pkr_vector *fpr, const pkr_vector *best);
+uint32_t pozkerrin_inner_place(const pkr_w6 *w);
 
 uint32_t pozkerrin_loop_start(pkr_w6 *w, pkr_k6 *k, pkr_f13 *f, pkr_w4 *lw, pkr_k10 *lk, pkr_f17 *lf, size_t n, size_t n1, size_t n2,
     uint32_t has_set_y, size_t max_inner_iterations, size_t max_outer_iterations, uint32_t limited, double tolerance,
@@ -211,6 +212,22 @@ static inline uint32_t pkr_inner_points(const pkr_inner *r, double *first, size_
       (const pkr_vector *)&r->u, (const pkr_vector *)&r->u_plus, (const pkr_vector *)&r->step, (const pkr_vector *)&r->half,
       (const pkr_vector *)&r->fpr, (const pkr_vector *)&r->best);
 }
+
+/* The first point of the question where it lies in the run: its n numbers stand until the next call. Nothing is to be read for TIME or after
+ * the end. */
+static inline const double *pkr_inner_point(const pkr_inner *r) {
+  switch (pozkerrin_inner_place((const pkr_w6 *)&r->w)) {
+    case 1: return r->u_plus;
+    case 2: return r->step;
+    case 3: return r->half;
+    case 4: return r->fpr;
+    case 5: return r->best;
+    default: return r->u;
+  }
+}
+
+/* The second point of DIRECTION where it lies. */
+static inline const double *pkr_inner_u(const pkr_inner *r) { return r->u; }
 
 /* The question, end, refusal or code of the last start or answer. */
 static inline uint32_t pkr_inner_told(const pkr_inner *r) { return r->w[1]; }

@@ -30,19 +30,6 @@ use panoc_core::panoc_cache::Reply;
 use panoc_core::refusals::Wanted;
 use start_tests::xi_fits;
 
-// Whether anything is wanted.
-pub fn waits(wanted: Wanted) -> bool
-    ensures { λ r. ⌜ r ≡ waiting (kindOf wanted) ⌝ }
-{
-    match wanted {
-        Wanted::Nothing => false,
-        Wanted::Number => true,
-        Wanted::Vector(_) => true,
-        Wanted::Direction(_) => true,
-        Wanted::Decision => true,
-    }
-}
-
 // Whether the lent u and xi have the lengths asked.
 pub fn fits(lk: &[usize; 10], us: usize, places: usize) -> bool
     ensures { λ r. ⌜ r ≡ (eqb us (getD (now (lk .entry)) 4 0) && eqb places (xiLength (getD (now (lk .entry)) 5 0) (getD (now (lk .entry)) 6 0))) ⌝ }

@@ -9,7 +9,6 @@ ghost use Rattle.host_loop.specs.Exports.{Exported};
 use crate::answers::answer_inner;
 use crate::answers::answer_own;
 use crate::answers::fits;
-use crate::answers::waits;
 use alm::alm_optimizer::start_in_place;
 use alm::alm_points::points_in_place;
 use alm_image::lent::alm_of;
@@ -21,6 +20,7 @@ use alm_image::waiting::wants;
 use image::kinds::reply_of;
 use image::solve::note;
 use image::solve::refuse;
+use panoc_answers::wanted::waits;
 use panoc_core::refusals::refusal;
 
 // A run that is begun at the lent slices, or its refusal.

@@ -87,8 +87,11 @@ akktValue Missing = ofBits binary64 0
 akktValue (Set t) = t
 
 -- the questions; DIRECTION has two numbers, the second where it says to forget
+abbrev pub questions : List Question
+questions = Q.Cost ∷ Q.Gradient ∷ Q.Project ∷ Q.Direction false ∷ Q.Direction true ∷ []
+
 abbrev pub questionOf : ℕ → Question
-questionOf m = getD (Q.Cost ∷ Q.Gradient ∷ Q.Project ∷ Q.Direction false ∷ Q.Direction true ∷ []) m Q.Time
+questionOf m = getD questions m Q.Time
 
 abbrev pub questionNumber : Question → ℕ
 questionNumber Q.Cost = 0
@@ -149,8 +152,11 @@ solveOf w k f =
 abbrev pub statusAt : List ℕ → List ℕ → List Float → SolverStatus
 statusAt w k f = record { «exit_status» = statusOf (getD w 1 0); iterations = record { 0 = getD k 5 0 }; «norm_fpr» = getD f 11 nan; «cost_value» = getD f 12 nan }
 
+abbrev pub outcomes : List ℕ → List ℕ → List Float → List Outcome
+outcomes w k f = Asked (questionOf (getD w 1 0)) ∷ Ended (statusAt w k f) ∷ Refused (getD w 1 0) ∷ []
+
 abbrev pub outcomeOf : ℕ → List ℕ → List ℕ → List Float → Outcome
-outcomeOf r w k f = getD (Asked (questionOf (getD w 1 0)) ∷ Ended (statusAt w k f) ∷ Refused (getD w 1 0) ∷ []) r (Failed (getD w 1 0))
+outcomeOf r w k f = getD (outcomes w k f) r (Failed (getD w 1 0))
 
 abbrev pub stepOf : ℕ → List ℕ → List ℕ → List Float → Stepped
 stepOf r w k f = record { outcome = outcomeOf r w k f; solve = solveOf w k f }
@@ -172,3 +178,43 @@ notedCount i k = getD k 0 0 ∷ getD k 1 0 ∷ getD k 2 0 ∷ getD k 3 0 ∷ get
 
 abbrev pub notedEnd : Float → Float → List Float → List Float
 notedEnd x c f = getD f 0 nan ∷ getD f 1 nan ∷ getD f 2 nan ∷ getD f 3 nan ∷ getD f 4 nan ∷ getD f 5 nan ∷ getD f 6 nan ∷ getD f 7 nan ∷ getD f 8 nan ∷ getD f 9 nan ∷ getD f 10 nan ∷ x ∷ c ∷ []
+
+-- ---- the lent numbers as a handler leaves them, with the names of panoc_core's laws
+
+-- another phase, and the number that is told
+abbrev pub moved : ℕ → ℕ → List ℕ → List ℕ
+moved p m w = p ∷ m ∷ getD w 2 0 ∷ getD w 3 0 ∷ getD w 4 0 ∷ getD w 5 0 ∷ []
+
+-- another end that stands
+abbrev pub stood : ℕ → List ℕ → List ℕ
+stood e w = getD w 0 0 ∷ getD w 1 0 ∷ e ∷ getD w 3 0 ∷ getD w 4 0 ∷ getD w 5 0 ∷ []
+
+-- what DIRECTION says
+abbrev pub forgotten : ℕ → List ℕ → List ℕ
+forgotten b w = getD w 0 0 ∷ getD w 1 0 ∷ getD w 2 0 ∷ b ∷ getD w 4 0 ∷ getD w 5 0 ∷ []
+
+-- the steps left and done
+abbrev pub countedSteps : ℕ → ℕ → List ℕ → List ℕ
+countedSteps l i k = l ∷ i ∷ getD k 2 0 ∷ getD k 3 0 ∷ getD k 4 0 ∷ getD k 5 0 ∷ []
+
+-- the rounds left
+abbrev pub countedRounds : ℕ → List ℕ → List ℕ
+countedRounds m k = getD k 0 0 ∷ getD k 1 0 ∷ m ∷ getD k 3 0 ∷ getD k 4 0 ∷ getD k 5 0 ∷ []
+
+abbrev nine : Float → Float → Float → Float → Float → Float → Float → Float → Float → List Float → List Float
+nine c l g σ x y τ v h f = c ∷ l ∷ g ∷ σ ∷ x ∷ y ∷ τ ∷ v ∷ h ∷ getD f 9 nan ∷ getD f 10 nan ∷ getD f 11 nan ∷ getD f 12 nan ∷ []
+
+abbrev pub costPut : Float → List Float → List Float
+costPut c f = nine c (getD f 1 nan) (getD f 2 nan) (getD f 3 nan) (getD f 4 nan) (getD f 5 nan) (getD f 6 nan) (getD f 7 nan) (getD f 8 nan) f
+
+abbrev pub gammasPut : Float → Float → Float → List Float → List Float
+gammasPut l g σ f = nine (getD f 0 nan) l g σ (getD f 4 nan) (getD f 5 nan) (getD f 6 nan) (getD f 7 nan) (getD f 8 nan) f
+
+abbrev pub normsPut : Float → Float → List Float → List Float
+normsPut x y f = nine (getD f 0 nan) (getD f 1 nan) (getD f 2 nan) (getD f 3 nan) x y (getD f 6 nan) (getD f 7 nan) (getD f 8 nan) f
+
+abbrev pub searchPut : Float → Float → List Float → List Float
+searchPut τ v f = nine (getD f 0 nan) (getD f 1 nan) (getD f 2 nan) (getD f 3 nan) (getD f 4 nan) (getD f 5 nan) τ v (getD f 8 nan) f
+
+abbrev pub normHPut : Float → List Float → List Float
+normHPut h f = nine (getD f 0 nan) (getD f 1 nan) (getD f 2 nan) (getD f 3 nan) (getD f 4 nan) (getD f 5 nan) (getD f 6 nan) (getD f 7 nan) h f

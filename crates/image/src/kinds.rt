@@ -1,6 +1,6 @@
 // Enums as numbers. Any number is read.
 ghost use mathlib.Core.Path.{_≡_};
-ghost use Rattle.image.specs.Image.{phaseOf, phaseNumber, statusOf, statusNumber, flagOf, flagNumber, akktOf, akktSet, akktValue, questionNumber, replyOf};
+ghost use Rattle.image.specs.Image.{phaseOf, phaseNumber, statusOf, statusNumber, flagOf, flagNumber, akktOf, akktSet, akktValue, questionOf, questionNumber, replyOf};
 use panoc_core::panoc_cache::AkktTolerance;
 use panoc_core::panoc_cache::ExitStatus;
 use panoc_core::panoc_cache::Phase;
@@ -117,6 +117,20 @@ pub fn akkt_value(a: AkktTolerance) -> f64
     match a {
         AkktTolerance::Missing => 0.0,
         AkktTolerance::Set(t) => t,
+    }
+}
+
+// A question by its number; any other is TIME's.
+pub fn question_of(m: u32) -> Question
+    ensures { λ r. ⌜ r ≡ questionOf m ⌝ }
+{
+    match m {
+        0 => Question::Cost,
+        1 => Question::Gradient,
+        2 => Question::Project,
+        3 => Question::Direction(false),
+        4 => Question::Direction(true),
+        _ => Question::Time,
     }
 }
 

@@ -1,7 +1,7 @@
 // The small part of an inner solve in three lent arrays: w, k and f, laid out as specs/Image.antt says.
 ghost use mathlib.Core.Path.{_≡_};
 ghost use mathlib.Core.Bool.{cond};
-ghost use Rattle.image.specs.Image.{settingsGiven, settingsOf, numbersOf, withNumbers, solveOf, noted, notedCount, notedEnd, Tells};
+ghost use Rattle.image.specs.Image.{settingsGiven, settingsOf, numbersOf, withNumbers, solveOf, outcomeOf, stepOf, noted, notedCount, notedEnd, Tells};
 use crate::kinds::akkt_of;
 use crate::kinds::akkt_set;
 use crate::kinds::akkt_value;
@@ -10,6 +10,7 @@ use crate::kinds::flag_of;
 use crate::kinds::phase_number;
 use crate::kinds::phase_of;
 use crate::kinds::question_number;
+use crate::kinds::question_of;
 use crate::kinds::status_number;
 use crate::kinds::status_of;
 use panoc_core::panoc_cache::InnerIterations;
@@ -17,6 +18,8 @@ use panoc_core::panoc_cache::Numbers;
 use panoc_core::panoc_cache::Outcome;
 use panoc_core::panoc_cache::Settings;
 use panoc_core::panoc_cache::Solve;
+use panoc_core::panoc_cache::SolverStatus;
+use panoc_core::panoc_cache::Stepped;
 
 // The settings of a start, from its numbers.
 pub fn settings_given(
@@ -182,6 +185,47 @@ pub fn keep(s: Solve, w: &mut [u32; 6], k: &mut [usize; 6], f: &mut [f64; 13])
     *k = [left, done, rounds, n, m, ended];
     let numbers = s.numbers;
     keep_numbers(numbers, f);
+}
+
+// The small part of a run, into any lent numbers.
+pub fn store(s: Solve, w: &mut [u32; 6], k: &mut [usize; 6], f: &mut [f64; 13])
+    ensures { λ _. ⌜ solveOf (now (w .exit)) (now (k .exit)) (now (f .exit)) ≡ s ⌝ }
+{
+    let set = s.set;
+    keep_settings(set, w, k, f);
+    keep(s, w, k, f);
+}
+
+// What a call has told, r being its kind.
+pub fn outcome_of(r: u32, w: &[u32; 6], k: &[usize; 6], f: &[f64; 13]) -> Outcome
+    ensures { λ o. ⌜ o ≡ outcomeOf r (now (w .entry)) (now (k .entry)) (now (f .entry)) ⌝ }
+{
+    let told = w[1];
+    match r {
+        0 => Outcome::Asked(question_of(told)),
+        1 => {
+            let exit_status = status_of(told);
+            let iterations = InnerIterations(k[5]);
+            let status = SolverStatus {
+                exit_status,
+                iterations,
+                norm_fpr: f[11],
+                cost_value: f[12],
+            };
+            Outcome::Ended(status)
+        }
+        2 => Outcome::Refused(told),
+        _ => Outcome::Failed(told),
+    }
+}
+
+// What a call has told, with the small part of the run.
+pub fn step_of(r: u32, w: &[u32; 6], k: &[usize; 6], f: &[f64; 13]) -> Stepped
+    ensures { λ s. ⌜ s ≡ stepOf r (now (w .entry)) (now (k .entry)) (now (f .entry)) ⌝ }
+{
+    let outcome = outcome_of(r, w, k, f);
+    let solve = solve_of(w, k, f);
+    Stepped { outcome, solve }
 }
 
 // The number that a call tells: a question's, an end's, a refusal's, a code.

@@ -8,6 +8,7 @@ ghost use Rattle.panoc_core.specs.Values.{akktOf, settingsOf};
 ghost use Rattle.panoc_core.specs.Board.{Board, runOf, gave, given, setU, before, after, Begins, begun, wantedOf, waiting, asked, firstPlaces, secondPlaces, firstAt};
 ghost use Rattle.panoc.specs.Calls.{Answers, Starts, Points};
 use panoc_answers::take;
+use panoc_answers::wanted::waits;
 use panoc_answers::wants;
 use panoc_core::panoc_cache::AkktTolerance;
 use panoc_core::panoc_cache::Answered;
@@ -23,7 +24,6 @@ use panoc_core::panoc_cache::Settings;
 use panoc_core::panoc_cache::Solve;
 use panoc_core::panoc_cache::Stepped;
 use panoc_core::panoc_cache::stops;
-use panoc_core::refusals::Wanted;
 use panoc_core::refusals::refusal;
 use start_tests::limit_right;
 use start_tests::sizes_right;
@@ -129,7 +129,7 @@ pub fn start(set: Settings, u: &[f64]) -> Answered
 }
 
 // The plan of an end goes from the best half step into the lent slice.
-pub fn hand_out(outcome: Outcome, best: &[f64; 64], plan: &mut [f64])
+fn hand_out(outcome: Outcome, best: &[f64; 64], plan: &mut [f64])
     requires { ⌜ length (now plan) ≤ 64 ⌝ }
     ensures { λ _. ⌜ now (plan .exit) ≡ given outcome (firsts (length (now (plan .entry))) (now (best .entry))) (now (plan .entry)) ⌝ }
 {
@@ -356,14 +356,7 @@ pub fn points_in_place(
 pub fn is_waiting(s: Solve) -> bool
     ensures { λ r. ⌜ r ≡ waiting (wantedOf s) ⌝ }
 {
-    let w = wants(s);
-    match w {
-        Wanted::Nothing => false,
-        Wanted::Number => true,
-        Wanted::Vector(_) => true,
-        Wanted::Direction(_) => true,
-        Wanted::Decision => true,
-    }
+    waits(wants(s))
 }
 
 // The points of the question of a run by value.

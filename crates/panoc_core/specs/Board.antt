@@ -8,7 +8,8 @@ use mathlib.Core.Bool.{Bool, true, false, cond}
 use mathlib.Core.Option.{Option, none, some}
 use lib.Ieee.{Float, binary64, ofBits}
 use Rattle.matrix_operations.specs.Firsts.{firsts}
-use Rattle.model.specs.Vectors.{dot}
+use Rattle.ieee.specs.Sums.{squares, norm}
+use Rattle.model.specs.Vectors.{minus, dot}
 use Rattle.model.specs.Process as M
 use Rattle.model.specs.Process.{Kind}
 use Rattle.model.specs.State as S
@@ -162,6 +163,34 @@ stateAt s b = stateOf (runOf s b)
 -- v is what the cost at the half step is held to, of a state with this cost, γ and norm, z the product of its gradient and residual
 abbrev pub Ceiling : Float → Float → Float → Float → Float → Type 0
 Ceiling c g x z v = (st : S.State) → st .at .cost ≡ c → st .at .gamma ≡ g → st .norm ≡ x → dot binary64 (st .at .gradient) (st .residual) ≡ z → v ≡ I.ceiling binary64 st
+
+-- v is the envelope of an iterate with this cost and γ, q the squares of its gradient and d those of gradient step less half step
+abbrev pub Envelope : Float → Float → Float → Float → Float → Type 0
+Envelope c g q d v =
+    (i : S.Iterate) → i .cost ≡ c → i .gamma ≡ g → squares binary64 (i .gradient) ≡ q → squares binary64 (minus binary64 (i .gradientStep) (i .half)) ≡ d → v ≡ I.envelope binary64 i
+
+-- r is the residual u - h, x its norm and z its product with the gradient g
+abbrev pub Residual : ℕ → List Float → List Float → List Float → List Float → Float → Float → Type 0
+Residual n u h g r x z =
+    (firsts n r ≡ minus binary64 (firsts n u) (firsts n h))
+    × (x ≡ norm binary64 (minus binary64 (firsts n u) (firsts n h)))
+    × (z ≡ dot binary64 (firsts n g) (minus binary64 (firsts n u) (firsts n h)))
+
+-- ---- what the parts of a solve come to: its end, a step, the time before it, the next step, what follows a step
+abbrev pub Finishes : Solve → Board → Stepped → Board → Type 0
+Finishes s b r b′ = Comes (s .set) (I.finish binary64 (setOf s) (endOf s) (iterateAt s b)) r b′
+
+abbrev pub Steps : Solve → Board → Stepped → Board → Type 0
+Steps s b r b′ = Comes (s .set) (I.step binary64 (setOf s) (endOf s) (nextAt s) (iterateAt s b)) r b′
+
+abbrev pub Times : Solve → Bool → Board → Stepped → Board → Type 0
+Times s t b r b′ = Comes (s .set) (I.timed binary64 (setOf s) (s .left) (nextAt s) (iterateAt s b) t) r b′
+
+abbrev pub Laps : Solve → Board → Stepped → Board → Type 0
+Laps s b r b′ = Comes (s .set) (I.laps binary64 (setOf s) (s .left) (iterateAt s b)) r b′
+
+abbrev pub Onward : Solve → Board → Stepped → Board → Type 0
+Onward s b r b′ = Comes (s .set) (I.onward binary64 (setOf s) (endOf s) (nextAt s) (iterateAt s b)) r b′
 
 -- a run that a start made
 abbrev pub Sound : Solve → Type 0

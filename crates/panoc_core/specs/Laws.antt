@@ -43,7 +43,7 @@ use Rattle.panoc_core.specs.declared.panoc_cache.Stepped.{Stepped}
 use Rattle.panoc_core.specs.declared.panoc_cache.Run.{Run}
 use Rattle.panoc_core.specs.Values.{akktOf, settingsOf, statusOf, exitStatus, replyOf, questionOf, said, ended}
 use Rattle.panoc_core.specs.Rest.{rest, resume, sound, iterateOf, stateOf, openingOf, nextOf, retryOf, doublingOf, doublingAt, halfCostAt}
-use Rattle.panoc_core.specs.Board.{Board, runOf, given, Comes, Takes, Sound, Ceiling, bestAt, setOf, endOf, nextAt, iterateAt, stateAt, withNumbers, atPhase, withStatus, stepped, setU, setPlus, setGradient, setStep, setHalf, setFpr, setDirection, setBest, setPrevious, six, seven, nine}
+use Rattle.panoc_core.specs.Board.{Board, runOf, given, Comes, Takes, Sound, Ceiling, Envelope, bestAt, setOf, endOf, nextAt, iterateAt, stateAt, withNumbers, atPhase, withStatus, stepped, setU, setPlus, setGradient, setStep, setHalf, setFpr, setDirection, setBest, setPrevious, six, seven, nine}
 
 -- ---- both of two tests
 pub and-left : (a b : Bool) → (a && b) ≡ true → a ≡ true
@@ -604,13 +604,12 @@ exceeds-is x c l q = rw (q, maxLipschitzConstant-bits)
 pub exceeds-not : (x c l : Float) → lt x c ≡ false → false ≡ (lt x c && lt l (maxLipschitzConstant binary64))
 exceeds-not x c l q = rw q
 
-module _ (s : Solve) (b : Board) where
-  pub envelope-is : (q d : Float) → q ≡ squares binary64 (firsts (s .set .n) (b .gradient)) → d ≡ squares binary64 (minus binary64 (firsts (s .set .n) (b .step)) (firsts (s .set .n) (b .half)))
-      → add binary64 (sub binary64 (s .numbers .«cost_value») (mul binary64 (mul binary64 (ofBits binary64 4602678819172646912) (s .numbers .gamma)) q)) (div binary64 (mul binary64 (ofBits binary64 4602678819172646912) d) (s .numbers .gamma))
-      ≡ I.envelope binary64 (iterateAt s b)
-  unfolding I.envelope
-  envelope-is q d qv dv = rw (qv, dv, half-bits)
+pub envelope-is : (c g q d : Float)
+    → Envelope c g q d (add binary64 (sub binary64 c (mul binary64 (mul binary64 (ofBits binary64 4602678819172646912) g) q)) (div binary64 (mul binary64 (ofBits binary64 4602678819172646912) d) g))
+unfolding I.envelope
+envelope-is c g q d = λ i cv gv qv dv. rw (cv, gv, qv, dv, half-bits)
 
+module _ (s : Solve) (b : Board) where
   -- the two tests
   pub exit-missing : lt (s .numbers .«norm_gamma_fpr») (s .set .tolerance) ≡ true → s .set .«akkt_tolerance» ≡ A.Missing → true ≡ I.passes binary64 (setOf s) (stateAt s b)
   unfolding I.passes I.akktPasses

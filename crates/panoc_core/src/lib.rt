@@ -1,5 +1,4 @@
-// PANOC's steps in place: the records of an inner solve and the handlers of its questions. The public calls are in the crate panoc.
+// The records of an inner solve, the numbers of its tests, and the refusals. The steps are in the crate panoc_steps, the public calls in panoc.
 pub mod lipschitz_estimator;
 pub mod panoc_cache;
-pub mod panoc_steps;
 pub mod refusals;

@@ -1,22 +1,14 @@
-// The start of a solve: the first cost, the gradient at u, and the estimate of the Lipschitz constant, which leaves u shifted.
+// The numbers of the Lipschitz estimate and of its tests.
 ghost use mathlib.Core.Path.{_≡_};
-ghost use mathlib.Core.List.{[]};
 ghost use mathlib.Core.Bool.{_&&_};
 ghost use Prim.Native.Nat.{_≤_};
-ghost use lib.Ieee.{binary64};
+ghost use lib.Ieee.{binary64, lt};
 ghost use lib.Ieee.Scale.{finite};
-ghost use lib.ListN.{length};
 ghost use Rattle.matrix_operations.specs.Firsts.{firsts};
+ghost use Rattle.model.specs.Constants.{maxLipschitzConstant};
 ghost use Rattle.model.specs.Vectors.{allFinite};
 ghost use Rattle.model.specs.Inner.{gammaOf, sigmaOf};
-ghost use Rattle.panoc_core.specs.Board.{Board, Sound, Takes, setU, setGradient, setStep};
-use crate::panoc_cache::Phase;
-use crate::panoc_cache::Question;
-use crate::panoc_cache::Reply;
-use crate::panoc_cache::Solve;
-use crate::panoc_cache::Stepped;
-use crate::panoc_cache::asks;
-use crate::panoc_cache::stops;
+ghost use Rattle.panoc_core.specs.Board.{Ceiling, Envelope};
 
 // A cost and a gradient that are both finite.
 pub fn both_finite(cost: f64, gradient: &[f64; 64], n: usize) -> bool
@@ -44,54 +36,27 @@ pub fn sigma_of(gamma: f64) -> f64
     (1.0 - 0.95) / (4.0 * gamma)
 }
 
-// COST at u is x.
-pub fn on_cost(s: Solve, x: f64) -> Stepped
-    requires { ⌜ (Sound s) × (s .phase ≡ Phase.Cost) ⌝ }
-    ensures { λ r. ⌜ ((b : Board) → Takes s b (Reply.Number x) [] r b) ⌝ }
+// cost + 1e-6 × |cost| - (gradient · residual) + (0.95 / (2 × γ)) × norm × norm
+pub fn lipschitz_check_rhs(cost: f64, gamma: f64, norm: f64, product: f64) -> f64
+    ensures { λ r. ⌜ Ceiling cost gamma norm product r ⌝ }
 {
-    let mut t = s;
-    t.numbers.cost_value = x;
-    asks(t, Phase::Gradient, Question::Gradient)
+    cost + 1e-6 * numeric::abs(cost) - product + (0.95 / (2.0 * gamma)) * norm * norm
 }
 
-// GRADIENT at u is v. The shift of the estimate stays in u.
-pub fn on_gradient(s: Solve, v: &[f64], u: &mut [f64; 64], gradient: &mut [f64; 64]) -> Stepped
-    requires { ⌜ (Sound s) × (s .phase ≡ Phase.Gradient) × (length (now v) ≡ s .set .n) ⌝ }
-    ensures { λ r. ⌜ ((b : Board) → Takes s (setU (now (u .entry)) b) Reply.Vector (now (v .entry)) r (setU (now (u .exit)) (setGradient (now (gradient .exit)) b))) ⌝ }
+// Whether L is to be doubled: the half step's cost exceeds its ceiling, and L is below 1e9.
+pub fn exceeds(ceiling: f64, lipschitz: f64, cost: f64) -> bool
+    ensures { λ r. ⌜ r ≡ (lt ceiling cost && lt lipschitz (maxLipschitzConstant binary64)) ⌝ }
 {
-    let n = s.set.n;
-    matrix_operations::take_into(v, gradient);
-    let norm_h = matrix_operations::shift_into(u, n);
-    let mut t = s;
-    t.numbers.norm_h = norm_h;
-    asks(t, Phase::Shifted, Question::Gradient)
-}
-
-// GRADIENT at the shifted u is v.
-pub fn on_shifted(
-    s: Solve,
-    v: &[f64],
-    u: &[f64; 64],
-    gradient: &[f64; 64],
-    step: &mut [f64; 64],
-) -> Stepped
-    requires { ⌜ (Sound s) × (s .phase ≡ Phase.Shifted) × (length (now v) ≡ s .set .n) ⌝ }
-    ensures { λ r. ⌜ ((b : Board) → Takes s (setU (now (u .entry)) (setGradient (now (gradient .entry)) (setStep (now (step .entry)) b))) Reply.Vector (now (v .entry)) r (setU (now (u .entry)) (setGradient (now (gradient .entry)) (setStep (now (step .exit)) b)))) ⌝ }
-{
-    let n = s.set.n;
-    if both_finite(s.numbers.cost_value, gradient, n) {
-        matrix_operations::take_into(v, step);
-        let change = matrix_operations::norm2_diff(step, gradient, n);
-        let lipschitz = change / s.numbers.norm_h;
-        let gamma = gamma_of(lipschitz);
-        let sigma = sigma_of(gamma);
-        matrix_operations::less_times_into(u, gamma, gradient, step, n);
-        let mut t = s;
-        t.numbers.lipschitz_constant = lipschitz;
-        t.numbers.gamma = gamma;
-        t.numbers.sigma = sigma;
-        asks(t, Phase::Project, Question::Project)
+    if ceiling < cost {
+        lipschitz < 1e9
     } else {
-        stops(s, 10)
+        false
     }
+}
+
+// cost - 0.5 × γ × |gradient|² + 0.5 × d² / γ, d the distance from gradient step to half step
+pub fn envelope(cost: f64, gamma: f64, gradient_squared: f64, distance_squared: f64) -> f64
+    ensures { λ r. ⌜ Envelope cost gamma «gradient_squared» «distance_squared» r ⌝ }
+{
+    cost - 0.5 * gamma * gradient_squared + 0.5 * distance_squared / gamma
 }

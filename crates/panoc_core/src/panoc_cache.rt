@@ -51,6 +51,7 @@ pub struct Numbers {
 // Which question a run waits for: those of the start, of a step's half step, of the doubling, DIRECTION, of the first step's move, of a
 // candidate, TIME, the last COST. Over: it has ended.
 pub enum Phase {
+    Over,
     Cost,
     Gradient,
     Shifted,
@@ -67,7 +68,6 @@ pub enum Phase {
     TriedProject,
     Time,
     LastCost,
-    Over,
 }
 
 // A question of the inner solve. DIRECTION says whether to forget.
@@ -142,17 +142,6 @@ pub struct Answered {
     pub run: Run,
 }
 
-// On to another phase, with a question.
-pub fn asks(s: Solve, phase: Phase, question: Question) -> Stepped
-    ensures { λ r. ⌜ r ≡ stepped (Outcome.Asked question) phase s ⌝ }
-{
-    let solve = at_phase(s, phase);
-    Stepped {
-        outcome: Outcome::Asked(question),
-        solve,
-    }
-}
-
 // The run ends, refused by a number.
 pub fn stops(s: Solve, number: u32) -> Stepped
     ensures { λ r. ⌜ r ≡ stepped (Outcome.Refused number) Phase.Over s ⌝ }
@@ -172,26 +161,6 @@ pub fn at_phase(s: Solve, phase: Phase) -> Solve
     let numbers = s.numbers;
     let iterations = s.iterations;
     let status = s.status;
-    Solve {
-        phase,
-        set,
-        numbers,
-        left: s.left,
-        iterations,
-        status,
-        rounds: s.rounds,
-        forget: s.forget,
-    }
-}
-
-// The same run with another end that stands.
-pub fn with_status(s: Solve, status: ExitStatus) -> Solve
-    ensures { λ r. ⌜ r ≡ withStatus status s ⌝ }
-{
-    let phase = s.phase;
-    let set = s.set;
-    let numbers = s.numbers;
-    let iterations = s.iterations;
     Solve {
         phase,
         set,
@@ -236,26 +205,5 @@ pub fn cache_best_half_step(
         norm
     } else {
         least
-    }
-}
-
-// The two tests: the norm against the tolerance, and the AKKT residual against its own where one is set.
-pub fn exit_condition(s: Solve, gradient: &[f64; 64], previous: &[f64; 64], fpr: &[f64; 64]) -> bool
-    requires { ⌜ s .set .n ≤ 64 ⌝ }
-    ensures { λ r. ⌜ ((b : Board) → r ≡ passes binary64 (setOf s) (stateAt s (setGradient (now (gradient .entry)) (setPrevious (now (previous .entry)) (setFpr (now (fpr .entry)) b))))) ⌝ }
-{
-    let n = s.set.n;
-    if s.numbers.norm_gamma_fpr < s.set.tolerance {
-        let set = s.set;
-        let akkt = set.akkt_tolerance;
-        match akkt {
-            AkktTolerance::Missing => true,
-            AkktTolerance::Set(t) => {
-                let x = matrix_operations::akkt_norm(s.numbers.gamma, fpr, gradient, previous, n);
-                x < t
-            }
-        }
-    } else {
-        false
     }
 }

@@ -1,6 +1,5 @@
-use mathlib.Core.Path.{refl}
-use Rattle.panoc.proofs.CallLaws.{waits-as}
-use Rattle.panoc_core.specs.declared.refusals.Wanted.the-variants as W
+use mathlib.Core.Path.{ap, _∙_}
+use Rattle.panoc_core.specs.Board.{waiting}
 use borrow.Author.Needs.{needs}
 use Rattle.panoc.proofs.panoc_optimizer.is_waiting.Statement.{statement}
 use Rattle.panoc.proofs.panoc_optimizer.is_waiting.Tie as tie
@@ -8,48 +7,11 @@ use Rattle.panoc.proofs.panoc_optimizer.is_waiting.Tie as tie
 wants-requires : tie.Need-wants-requires
 wants-requires c κs = search needs
 
-enum-told : tie.Need-enum-told
-enum-told c = search needs
-
-enum-told-2 : tie.Need-enum-told-2
-enum-told-2 c = search needs
-
-enum-told-3 : tie.Need-enum-told-3
-enum-told-3 c = search needs
-
-enum-told-4 : tie.Need-enum-told-4
-enum-told-4 c = search needs
-
-enum-told-5 : tie.Need-enum-told-5
-enum-told-5 c = search needs
+waits-requires : tie.Need-waits-requires
+waits-requires c κs = search needs
 
 returns : tie.Need-returns
-returns c = waits-as (c .before .before .before .args .s) _ W.Nothing (c .before .before .wants .ensures) (c .enum-told .given .1)
-
-returns-2 : tie.Need-returns-2
-returns-2 c = waits-as (c .before .before .before .args .s) _ W.Number (c .before .before .wants .ensures) (c .enum-told2 .given .1)
-
-returns-3 : tie.Need-returns-3
-returns-3 c = waits-as (c .before .before .before .args .s) _ (W.Vector _) (c .before .before .wants .ensures) (c .enum-told3 .given .1)
-
-returns-4 : tie.Need-returns-4
-returns-4 c = waits-as (c .before .before .before .args .s) _ (W.Direction _) (c .before .before .wants .ensures) (c .enum-told4 .given .1)
-
-returns-5 : tie.Need-returns-5
-returns-5 c = waits-as (c .before .before .before .args .s) _ W.Decision (c .before .before .wants .ensures) (c .enum-told5 .given .1)
+returns c = c .waits .ensures ∙ ap waiting (c .before .wants .ensures)
 
 pub is-waiting-spec : {M : Type 1} → statement M
-is-waiting-spec =
-    tie.close
-    (tie.spec
-    wants-requires
-    enum-told
-    enum-told-2
-    enum-told-3
-    enum-told-4
-    enum-told-5
-    returns
-    returns-2
-    returns-3
-    returns-4
-    returns-5)
+is-waiting-spec = tie.close (tie.spec wants-requires waits-requires returns)
