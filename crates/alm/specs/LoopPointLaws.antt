@@ -119,7 +119,7 @@ carried-at xi r IP.LastCost = refl
 carried-at xi r IP.Over = tt
 
 -- ---- what is true of the question of a phase
-abbrev LoopFacts : Alm → LoopBoard → AlmPhase → Option M.LoopQuestion → Type 0
+abbrev pub LoopFacts : Alm → LoopBoard → AlmPhase → Option M.LoopQuestion → Type 0
 LoopFacts s b p none = Unit {0}
 LoopFacts s b p (some q) =
     (length (firstPoint q) ≡ firstPlaces s p)
@@ -205,7 +205,7 @@ some-same : {A : Type 0} {a c : A} → some a ≡ some c → a ≡ c
 some-same e = cc
 
 -- the facts of the question of a run that waits
-waits-facts : (s : Alm) (b : LoopBoard) (q : M.LoopQuestion) → waiting (wantedOf s) ≡ true → asking (rest s b) ≡ some q → LoopFacts s b (s .phase) (some q)
+pub waits-facts : (s : Alm) (b : LoopBoard) (q : M.LoopQuestion) → waiting (wantedOf s) ≡ true → asking (rest s b) ≡ some q → LoopFacts s b (s .phase) (some q)
 unfolding resume
 waits-facts s b q w e = by (s .phase) refl
   where

@@ -110,7 +110,7 @@ pub fn wants(s: Alm) -> Wanted
 }
 
 // A vector that the loop itself asked for.
-pub fn on_vector(
+fn on_vector(
     s: Alm,
     v: &[f64],
     u: &mut [f64; 64],
@@ -161,7 +161,7 @@ pub fn take_own(
 }
 
 // An answer to a question of the inner solve.
-pub fn take_inner(
+fn take_inner(
     s: Alm,
     a: Reply,
     v: &[f64],
@@ -200,7 +200,7 @@ pub fn take_inner(
 }
 
 // An answer that nothing refuses. A plan stays in u, the multipliers in y_plus.
-pub fn take(
+pub(crate) fn take(
     s: Alm,
     a: Reply,
     v: &[f64],

@@ -66,7 +66,7 @@ pub fn hand_out(outcome: AlmOutcome, u: &[f64; 64], plan: &mut [f64])
 }
 
 // The penalty goes into place 0 of xi, and the multipliers into the part from place 1 on.
-pub fn give_xi(penalty: f64, y: &[f64; 64], xi: &mut [f64])
+fn give_xi(penalty: f64, y: &[f64; 64], xi: &mut [f64])
     requires { ⌜ (1 ≤ length (now xi)) × (length (now xi) ≤ 33) ⌝ }
     ensures { λ _. ⌜ now (xi .exit) ≡ penalty ∷ firsts (length (now (xi .entry)) - 1) (now (y .entry)) ⌝ }
 {

@@ -22,6 +22,13 @@ pub fn carries_xi(s: Solve) -> bool
     ensures { λ r. ⌜ r ≡ carriesXi (s .phase) ⌝ }
 {
     let phase = s.phase;
+    carries_xi_at(phase)
+}
+
+// The same at a phase.
+pub fn carries_xi_at(phase: Phase) -> bool
+    ensures { λ r. ⌜ r ≡ carriesXi phase ⌝ }
+{
     match phase {
         Phase::Cost => true,
         Phase::Gradient => true,
@@ -73,7 +80,7 @@ pub fn first_places(s: Alm) -> usize
 }
 
 // How many places the second point of the inner solve's question has.
-pub fn inner_second_places(s: Alm) -> usize
+fn inner_second_places(s: Alm) -> usize
     requires { ⌜ s .set .n1 ≤ 32 ⌝ }
     ensures { λ r. ⌜ r ≡ innerSecond s ⌝ }
 {
@@ -103,7 +110,7 @@ pub fn second_places(s: Alm) -> usize
 }
 
 // The first point of the question that the run waits with.
-pub fn first_point(
+fn first_point(
     s: Alm,
     first: &mut [f64],
     u: &[f64; 64],
@@ -141,7 +148,7 @@ pub fn first_point(
 }
 
 // The second point of the inner solve's question: xi, or u for DIRECTION.
-pub fn inner_second_point(s: Alm, second: &mut [f64], u: &[f64; 64], y: &[f64; 64])
+fn inner_second_point(s: Alm, second: &mut [f64], u: &[f64; 64], y: &[f64; 64])
     requires { ⌜ (s .set .n1 ≤ 32) × (s .solve .set .n ≤ 64) × (length (now second) ≡ innerSecond s) ⌝ }
     ensures { λ _. ⌜ now (second .exit) ≡ innerSecondAt s (now (u .entry)) (now (y .entry)) (now (second .entry)) ⌝ }
 {
@@ -153,7 +160,7 @@ pub fn inner_second_point(s: Alm, second: &mut [f64], u: &[f64; 64], y: &[f64; 6
 }
 
 // The second point of the question that the run waits with.
-pub fn second_point(s: Alm, second: &mut [f64], u: &[f64; 64], y: &[f64; 64])
+fn second_point(s: Alm, second: &mut [f64], u: &[f64; 64], y: &[f64; 64])
     requires { ⌜ (Sound s) × (length (now second) ≡ secondPlaces s (s .phase)) ⌝ }
     ensures { λ _. ⌜ now (second .exit) ≡ secondAt s (now (u .entry)) (now (y .entry)) (s .phase) (now (second .entry)) ⌝ }
 {

@@ -40,6 +40,7 @@ pub struct AlmNumbers {
 
 // Which question a run waits for. Over: it has ended.
 pub enum AlmPhase {
+    Over,
     Time,
     ProjectY,
     Inner,
@@ -47,7 +48,6 @@ pub enum AlmPhase {
     ProjectC,
     F2,
     LastCost,
-    Over,
 }
 
 // A question of the loop, or one of the inner solve that it carries.

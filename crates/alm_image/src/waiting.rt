@@ -6,7 +6,7 @@ ghost use Rattle.alm.specs.LoopCalls.{wantedOf};
 ghost use Rattle.alm_image.specs.AlmImage.{almOf};
 use crate::kinds::alm_phase_of;
 use alm_core::alm_cache::AlmPhase;
-use image::solve::solve_of;
+use panoc_answers::wanted::wants_lent;
 use panoc_core::refusals::Wanted;
 
 // Sizes as document 01 has them.
@@ -106,10 +106,7 @@ pub fn wants(
         match phase {
             AlmPhase::Time => Wanted::Decision,
             AlmPhase::ProjectY => Wanted::Vector(n1),
-            AlmPhase::Inner => {
-                let solve = solve_of(w, k, f);
-                panoc_answers::wants(solve)
-            }
+            AlmPhase::Inner => wants_lent(w, k),
             AlmPhase::F1 => Wanted::Vector(n1),
             AlmPhase::ProjectC => Wanted::Vector(n1),
             AlmPhase::F2 => Wanted::Vector(n2),

@@ -22,39 +22,31 @@ static uint64_t bits_of(double x) {
 /* Answers the questions until the run is over; asked counts them by number. */
 static uint32_t answer_all(pkr_inner *run, uint32_t got, clock_t until, double *plan, unsigned *asked) {
   static kiln_memory memory;
-  double at[N], u[N], v[N], none = 0;
+  double v[N];
   while (got == PKR_ASKED) {
     const uint32_t question = pkr_inner_told(run);
-    uint32_t refused = 0;
+    const double *at = pkr_inner_point(run);
     asked[question]++;
     switch (question) {
       case PKR_COST:
-        refused = pkr_inner_points(run, at, N, &none, 0);
         got = pkr_inner_number(run, kiln_cost(at), plan, N);
         break;
       case PKR_GRADIENT:
-        refused = pkr_inner_points(run, at, N, &none, 0);
         kiln_gradient(at, v);
         got = pkr_inner_vector(run, v, N, plan, N);
         break;
       case PKR_PROJECT:
-        refused = pkr_inner_points(run, at, N, &none, 0);
         kiln_project(at, v);
         got = pkr_inner_vector(run, v, N, plan, N);
         break;
       case PKR_DIRECTION:
       case PKR_DIRECTION_FORGET:
-        refused = pkr_inner_points(run, at, N, u, N);
-        kiln_direction(&memory, question == PKR_DIRECTION_FORGET, at, u, v);
+        kiln_direction(&memory, question == PKR_DIRECTION_FORGET, at, pkr_inner_u(run), v);
         got = pkr_inner_vector(run, v, N, plan, N);
         break;
       default: /* PKR_TIME */
         got = pkr_inner_decision(run, clock() < until, plan, N);
         break;
-    }
-    if (refused) {
-      fprintf(stderr, "kiln: points refused by %" PRIu32 "\n", refused);
-      exit(1);
     }
   }
   return got;

@@ -138,7 +138,7 @@ pub extern "C" fn pozkerrin_inner_points(
 
 // The vector that holds the first point of a phase's question: 0 u, 1 the candidate, 2 the gradient step, 3 the half step, 4 the residual,
 // 5 the best half step.
-fn place_of(phase: Phase) -> u32
+pub fn place_of(phase: Phase) -> u32
     ensures { λ r. ⌜ r ≡ placeOf phase ⌝ }
 {
     match phase {

@@ -1,19 +1,20 @@
 -- The loop's calls, carried to what lent numbers stand for. Assumes nothing.
-use Prim.Native.Nat.{ℕ, zero, suc, _≤_, _<_}
+use Prim.Native.Nat.{ℕ, zero, suc, _-_, _*_, _≤_, _<_}
 use mathlib.Core.Path.{_≡_, refl, sym, ap, _∙_, subst}
-use mathlib.Core.Bool.{Bool, true, false, cond}
+use mathlib.Core.Bool.{Bool, true, cond, _&&_}
 use mathlib.Core.List.{List, []}
 use mathlib.Core.Option.{Option}
 use native.Mathlib.Omega.{arith}
 use lib.Ieee.{Float}
-use lib.ListN.{length, getD}
+use lib.Dec.{leb, eqb}
+use lib.ListN.{length, getD, List·getD-eq-default}
 use Rattle.model.specs.Process.{Kind}
 use Rattle.model.specs.Refusals.{wanted, answerRefusal}
-use Rattle.panoc_core.specs.declared.panoc_cache.Outcome.{Outcome}
 use Rattle.panoc_core.specs.declared.panoc_cache.Outcome.the-variants as IO
 use Rattle.panoc_core.specs.declared.panoc_cache.Question.{Question}
 use Rattle.panoc_core.specs.declared.panoc_cache.Question.the-variants as IQ
 use Rattle.panoc_core.specs.declared.panoc_cache.Reply.{Reply}
+use Rattle.panoc_core.specs.declared.panoc_cache.Settings.{Settings}
 use Rattle.panoc_core.specs.declared.panoc_cache.Solve.{Solve}
 use Rattle.panoc_core.specs.declared.panoc_cache.Stepped.{Stepped}
 use Rattle.panoc_core.specs.declared.refusals.Wanted.{Wanted}
@@ -23,7 +24,6 @@ use Rattle.panoc_core.specs.Board.{Board, waiting}
 use Rattle.panoc_core.specs.Board as InnerBoard
 use Rattle.alm_core.specs.declared.alm_cache.Alm.{Alm}
 use Rattle.alm_core.specs.declared.alm_cache.AlmAnswered.{AlmAnswered}
-use Rattle.alm_core.specs.declared.alm_cache.AlmOutcome.{AlmOutcome}
 use Rattle.alm_core.specs.declared.alm_cache.AlmOutcome.the-variants.{Asked, Refused}
 use Rattle.alm_core.specs.declared.alm_cache.AlmPhase.{AlmPhase}
 use Rattle.alm_core.specs.declared.alm_cache.AlmPhase.the-variants as P
@@ -32,7 +32,7 @@ use Rattle.alm_core.specs.declared.alm_cache.AlmQuestion.the-variants as Q
 use Rattle.alm_core.specs.declared.alm_cache.AlmRun.{AlmRun}
 use Rattle.alm_core.specs.declared.alm_cache.AlmSettings.{AlmSettings}
 use Rattle.alm_core.specs.declared.alm_cache.AlmStepped.{AlmStepped}
-use Rattle.alm_core.specs.Rest.{LoopBoard}
+use Rattle.alm_core.specs.Rest.{LoopBoard, sized, counts}
 use Rattle.alm_core.specs.Board.{Takes, Ready, Carries, endsWithin, atPhase, stepped, given, setU, setY, setYPlus, four}
 use Rattle.alm_core.specs.Laws.{carries-asked}
 use Rattle.alm.specs.LoopCalls.{Begins, Answers, Points, runOf, gave, restOf, wantedOf, lentRight, xiHanded}
@@ -41,17 +41,22 @@ use Rattle.image.specs.Image as I
 use Rattle.image.specs.Image.{solveOf, replyOf, strange, noted}
 use Rattle.image.specs.Rounds.{strange-round}
 use Rattle.alm_image.specs.AlmImage.{phaseOf, phaseNumber, questionOf, almOf, stepOf}
-use Rattle.host_loop.specs.Exports.{Exported, Accepted, HandsOut, asksOn, askedNumber}
+use Rattle.host_loop.specs.Exports.{Exported, Accepted, HandsOut, Settled}
 
 none-lent : Board
 none-lent = record { u = []; plus = []; gradient = []; previous = []; step = []; half = []; fpr = []; direction = []; best = [] }
 
-no-bit : false ≡ true → ⊥
-no-bit e = omega (arith, ap {B = ℕ} (λ (c : Bool). cond c 1 0) e)
-
 -- a loop with another inner solve
 abbrev holding : Solve → Alm → Alm
 holding w s = record { phase = s .phase; set = s .set; numbers = s .numbers; left = s .left; outer = s .outer; inner = s .inner; found = s .found; status = s .status; solve = w }
+
+-- the loop reads no more of its inner solve than the settings
+ready-holding : (s : Alm) (w : Solve) → w .set .n ≡ s .solve .set .n → Ready s → Ready (holding w s)
+unfolding sized counts
+ready-holding s w e h = (h .0, ap (λ (m : ℕ). leb (s .left) 999 && (leb (s .outer .0) (999 - s .left) && (leb (s .inner .0) (10000 * s .outer .0) && (leb (s .found .0) 10000 && eqb m (s .set .n))))) e ∙ h .1)
+
+carries-holding : (s : Alm) (w : Solve) (r : Stepped) (b : LoopBoard) (o : AlmStepped) (b′ : LoopBoard) → w .set ≡ s .solve .set → Carries (holding w s) r b o b′ → Carries s r b o b′
+carries-holding s w r b o b′ e k = λ p c. k p (subst (λ (q : Settings). InnerBoard.Comes q p r (b .inner)) (sym e) c)
 
 -- ---- start
 module _ (s x : AlmSettings) (v xi u y z : List Float) (r : AlmStepped) (g : (b : LoopBoard) → Begins s v xi r (setU u (setY y (setYPlus z b)))) (e : s ≡ x) where
@@ -135,66 +140,74 @@ module _ (s : Alm) (a : Reply) (v us xs : List Float) (acc : Accepted s a v us x
     pub own-takes : (b b′ : LoopBoard) (o : AlmStepped) → Takes z b a v o b′ → Takes s b a v o b′
     own-takes b b′ o t = subst (λ (q : Alm). Takes q b a v o b′) e t
 
-  -- by its inner solve
-  module _ (ph : s .phase ≡ P.Inner) (z : Solve) (e : z ≡ s .solve) (b : LoopBoard) (r : Stepped) (i : Board) (t : InnerBoard.Takes z (b .inner) a v r i) where
-    taken : InnerBoard.Takes (s .solve) (b .inner) a v r i
-    taken = subst (λ (q : Solve). InnerBoard.Takes q (b .inner) a v r i) e t
-
-    pub keep-may : s .solve .set ≡ r .solve .set
-    keep-may = sym (taken .settings)
-
+  -- by its inner solve, which has come to r
+  module _ (ph : s .phase ≡ P.Inner) (b : LoopBoard) (r : Stepped) (i : Board) (t : InnerBoard.Takes (s .solve) (b .inner) a v r i) where
     ready : Ready s
-    ready = inner-ready s b a v r i may ph taken
+    ready = inner-ready s b a v r i may ph t
 
     same : r .solve .set .n ≡ s .set .n
-    same = inner-n s b a v r i may ph taken
+    same = inner-n s b a v r i may ph t
 
-    pub on-may : (q : Alm) → q ≡ s → (Ready q) × (r .solve .set .n ≡ q .set .n) × endsWithin (r .outcome)
-    on-may q h = subst (λ (c : Alm). (Ready c) × (r .solve .set .n ≡ c .set .n) × endsWithin (r .outcome)) (sym h) (ready, same, inner-ends s b a v r i may ph taken)
+    pub on-may : (x : Stepped) (q : Alm) → x ≡ r → q ≡ holding (r .solve) s → (Ready q) × (x .solve .set .n ≡ q .set .n) × endsWithin (x .outcome)
+    on-may x q e h =
+        subst (λ (c : Alm). (Ready c) × (x .solve .set .n ≡ c .set .n) × endsWithin (x .outcome)) (sym h)
+        (subst (λ (c : Stepped). (Ready (holding (r .solve) s)) × (c .solve .set .n ≡ s .set .n) × endsWithin (c .outcome)) (sym e)
+        (ready-holding s (r .solve) (ap (λ (c : Settings). c .n) (t .settings)) ready, same, inner-ends s b a v r i may ph t))
 
-    pub on-takes : (q : Alm) (o : AlmStepped) (u y : List Float) → q ≡ s
-        → ((c : LoopBoard) → Carries q r (four (i .u) (i .best) (b .y) (b .yPlus) c) o (four u (i .best) y (b .yPlus) c))
+    pub on-takes : (x : Stepped) (q : Alm) (o : AlmStepped) (u y : List Float) → x ≡ r → q ≡ holding (r .solve) s
+        → ((c : LoopBoard) → Carries q x (four (i .u) (i .best) (b .y) (b .yPlus) c) o (four u (i .best) y (b .yPlus) c))
         → Takes s b a v o (record { inner = InnerBoard.setU u i; y = y; yPlus = b .yPlus; w = b .w })
-    on-takes q o u y h k =
-        inner-takes s b a v r i may ph taken o u y
-        (subst (λ (j : Alm). (c : LoopBoard) → Carries j r (four (i .u) (i .best) (b .y) (b .yPlus) c) o (four u (i .best) y (b .yPlus) c)) h k)
+    on-takes x q o u y e h k =
+        inner-takes s b a v r i may ph t o u y
+        (λ c.
+        carries-holding s (r .solve) r (four (i .u) (i .best) (b .y) (b .yPlus) c) o (four u (i .best) y (b .yPlus) c) (t .settings)
+        (subst (λ (j : Stepped). Carries (holding (r .solve) s) j (four (i .u) (i .best) (b .y) (b .yPlus) c) o (four u (i .best) y (b .yPlus) c)) e
+        (subst (λ (j : Alm). Carries j x (four (i .u) (i .best) (b .y) (b .yPlus) c) o (four u (i .best) y (b .yPlus) c)) h (k c))))
 
     pub asked-settles : (j : Question) (o : AlmStepped) → r .outcome ≡ IO.Asked j → o ≡ stepped (Asked (Q.Inner j)) P.Inner (holding (r .solve) s)
         → Answers (runOf s b) a v us us xs xs (gave o (record { inner = i; y = b .y; yPlus = b .yPlus; w = b .w }))
     asked-settles j o h q =
         settles b (record { inner = i; y = b .y; yPlus = b .yPlus; w = b .w }) o o us xs
-        (on-takes s o (i .u) (b .y) refl (λ c. carries-asked s (four (i .u) (i .best) (b .y) (b .yPlus) c) r o ready same j h q))
+        (inner-takes s b a v r i may ph t o (i .u) (b .y) (λ c. carries-asked s (four (i .u) (i .best) (b .y) (b .yPlus) c) r o ready same j h q))
         (refl, nothing-out (Q.Inner j) o (i .u) (b .yPlus) us xs (ap (λ (c : AlmStepped). c .outcome) q))
 
-pub take-may : (s : Alm) (a : Reply) (v us xs : List Float) → Accepted s a v us xs → s .phase ≡ P.Inner → (z : Solve) → z ≡ s .solve
-    → answerRefusal (InnerBoard.wantedOf z) (Inner.replyOf a) (length v) true ≡ 0
-take-may s a v us xs acc ph z e =
-    ap (λ (q : Solve). answerRefusal (InnerBoard.wantedOf q) (Inner.replyOf a) (length v) true) e ∙ inner-refusal s a (length v) (may s a v us xs acc) ph
+-- ---- an answer to the inner solve that a lent loop carries: its numbers are w, k and f before and w′, k′ and f′ after, and r is the kind told
+module _ (w k : List ℕ) (f : List Float) (lw lk : List ℕ) (lf : List Float) (a : Reply) (v us xs : List Float) (acc : Accepted (almOf w k f lw lk lf) a v us xs) (p : getD lw 0 0 ≡ 3) where
+  abbrev loop : Alm
+  loop = almOf w k f lw lk lf
 
--- what is stored while the inner solve asks on
-asked-round : (j : Question) → questionOf (I.questionNumber j) ≡ Q.Inner j
-asked-round IQ.Cost = refl
-asked-round IQ.Gradient = refl
-asked-round IQ.Project = refl
-asked-round (IQ.Direction true) = refl
-asked-round (IQ.Direction false) = refl
-asked-round IQ.Time = refl
+  pub take-may : answerRefusal (InnerBoard.wantedOf (solveOf w k f)) (Inner.replyOf a) (length v) true ≡ 0
+  take-may = inner-refusal loop a (length v) (may loop a v us xs acc) (ap phaseOf p)
 
-pub asked-by : (o : Outcome) (t : Bool) → t ≡ asksOn o → t ≡ true → (j : Question) × (o ≡ IO.Asked j)
-asked-by (IO.Asked j) t e q = (j, refl)
-asked-by (IO.Ended st) t e q = absurd (no-bit (sym e ∙ q))
-asked-by (IO.Refused k) t e q = absurd (no-bit (sym e ∙ q))
-asked-by (IO.Failed c) t e q = absurd (no-bit (sym e ∙ q))
+  module _ (b : LoopBoard) (i : Board) (r : ℕ) (w′ k′ : List ℕ) (f′ : List Float) (t : InnerBoard.Takes (solveOf w k f) (b .inner) a v (I.stepOf r w′ k′ f′) i) where
+    pub lent-may : (x : Stepped) (q : Alm) → x ≡ I.stepOf r w′ k′ f′ → q ≡ almOf w′ k′ f′ lw lk lf → (Ready q) × (x .solve .set .n ≡ q .set .n) × endsWithin (x .outcome)
+    lent-may x q e h = on-may loop a v us xs acc (ap phaseOf p) b (I.stepOf r w′ k′ f′) i t x q e h
 
-module _ (w w′ w″ k k′ : List ℕ) (f f′ : List Float) (lw lk : List ℕ) (lf : List Float) (r : Stepped) (j : Question) (m : ℕ) where
-  pub asked-stored : getD lw 0 0 ≡ 3 → r .outcome ≡ IO.Asked j → m ≡ askedNumber (r .outcome) → solveOf w′ k′ f′ ≡ r .solve → w″ ≡ noted m w′
-      → stepOf 0 w″ k′ f′ lw lk lf ≡ stepped (Asked (Q.Inner j)) P.Inner (holding (r .solve) (almOf w k f lw lk lf))
-  asked-stored p h q g n =
-      ap (λ (l : List ℕ). stepOf 0 l k′ f′ lw lk lf) n
-      ∙ ap (λ (c : Solve). record { outcome = Asked (questionOf m); alm = holding c (almOf w k f lw lk lf) }) g
-      ∙ ap (λ (c : AlmQuestion). record { outcome = Asked c; alm = holding (r .solve) (almOf w k f lw lk lf) }) (ap questionOf (q ∙ ap askedNumber h) ∙ asked-round j)
-      ∙ ap (λ (c : AlmPhase). record { outcome = Asked (Q.Inner j); alm = atPhase c (holding (r .solve) (almOf w k f lw lk lf)) }) (ap phaseOf p)
+    pub lent-takes : (x : Stepped) (q : Alm) (o : AlmStepped) (u y : List Float) → x ≡ I.stepOf r w′ k′ f′ → q ≡ almOf w′ k′ f′ lw lk lf
+        → ((c : LoopBoard) → Carries q x (four (i .u) (i .best) (b .y) (b .yPlus) c) o (four u (i .best) y (b .yPlus) c))
+        → Takes loop b a v o (record { inner = InnerBoard.setU u i; y = y; yPlus = b .yPlus; w = b .w })
+    lent-takes x q o u y e h k = on-takes loop a v us xs acc (ap phaseOf p) b (I.stepOf r w′ k′ f′) i t x q o u y e h k
 
--- ---- points
-pub points-as : (s z : Alm) (b : LoopBoard) (xs xs′ ys ys′ : List Float) (m : ℕ) → s ≡ z → Points (runOf s b) xs xs′ ys ys′ m → Points (runOf z b) xs xs′ ys ys′ m
-points-as s z b xs xs′ ys ys′ m e g = subst (λ (q : Alm). Points (runOf q b) xs xs′ ys ys′ m) e g
+    -- what is stored while the inner solve asks on
+    pub lent-asks : (w″ : List ℕ) → r ≡ 0 → Settled w′ w″ → Answers (runOf loop b) a v us us xs xs (gave (stepOf 0 w″ k′ f′ lw lk lf) (record { inner = i; y = b .y; yPlus = b .yPlus; w = b .w }))
+    lent-asks w″ z h =
+        asked-settles loop a v us xs acc (ap phaseOf p) b (I.stepOf 0 w′ k′ f′) i (subst (λ (m : ℕ). InnerBoard.Takes (solveOf w k f) (b .inner) a v (I.stepOf m w′ k′ f′) i) z t) (I.questionOf (getD w′ 1 0)) (stepOf 0 w″ k′ f′ lw lk lf) refl
+        (ap (λ (c : Solve). record { outcome = Asked (questionOf (getD w″ 1 0)); alm = holding c loop }) (h .0 k′ f′)
+        ∙ ap (λ (c : AlmQuestion). record { outcome = Asked c; alm = holding (solveOf w′ k′ f′) loop }) (h .1)
+        ∙ ap (λ (c : AlmPhase). record { outcome = Asked (Q.Inner (I.questionOf (getD w′ 1 0))); alm = atPhase c (holding (solveOf w′ k′ f′) loop) }) (ap phaseOf p))
+
+-- ---- the number of the inner solve's question
+inner-question : (m : ℕ) → m ≤ 5 → questionOf m ≡ Q.Inner (I.questionOf m)
+inner-question zero h = refl
+inner-question (suc zero) h = refl
+inner-question (suc (suc zero)) h = refl
+inner-question (suc (suc (suc zero))) h = refl
+inner-question (suc (suc (suc (suc zero)))) h = refl
+inner-question (suc (suc (suc (suc (suc zero))))) h = refl
+inner-question (suc (suc (suc (suc (suc (suc m)))))) h = absurd (omega (arith, h))
+
+pub settled-kept : (w : List ℕ) → getD w 1 0 ≤ 5 → Settled w w
+settled-kept w h = (λ k f. refl, inner-question (getD w 1 0) h)
+
+pub settled-noted : (w w′ : List ℕ) → 5 < getD w 1 0 → w′ ≡ noted 5 w → Settled w w′
+settled-noted w w′ h n = subst (λ (q : List ℕ). Settled w q) (sym n) (λ k f. refl, ap Q.Inner (sym (List·getD-eq-default I.questions IQ.Time {n = getD w 1 0} (omega (arith, h)))))

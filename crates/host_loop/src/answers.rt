@@ -5,13 +5,11 @@ ghost use Prim.Native.Nat.{_≤_};
 ghost use lib.Dec.{eqb};
 ghost use lib.ListN.{length, getD};
 ghost use Rattle.model.specs.Refusals.{xiLength};
-ghost use Rattle.panoc_core.specs.Values.{kindOf};
-ghost use Rattle.panoc_core.specs.Board.{waiting};
 ghost use Rattle.alm_core.specs.Rest.{LoopBoard};
 ghost use Rattle.alm_core.specs.Board.{six};
 ghost use Rattle.alm.specs.LoopCalls.{Answers, before, after, runOf, gave};
 ghost use Rattle.alm_image.specs.AlmImage.{settingsOf, almOf, stepOf};
-ghost use Rattle.host_loop.specs.Exports.{Accepted, HandsOut, asksOn, askedNumber};
+ghost use Rattle.host_loop.specs.Exports.{Accepted, HandsOut, Settled};
 use alm::alm_answers::take_own;
 use alm::alm_optimizer::hand_out;
 use alm::alm_optimizer::hand_out_xi;
@@ -20,14 +18,10 @@ use alm_core::alm_steps::on_inner;
 use alm_image::lent::alm_of;
 use alm_image::lent::keep_alm;
 use alm_image::lent::tell_alm;
-use image::kinds::question_number;
-use image::solve::keep;
 use image::solve::note;
-use image::solve::solve_of;
-use panoc_answers::take;
-use panoc_core::panoc_cache::Outcome;
+use image::solve::step_of;
+use panoc_answers::lent::take_lent;
 use panoc_core::panoc_cache::Reply;
-use panoc_core::refusals::Wanted;
 use start_tests::xi_fits;
 
 // Whether the lent u and xi have the lengths asked.
@@ -41,26 +35,12 @@ pub fn fits(lk: &[usize; 10], us: usize, places: usize) -> bool
     }
 }
 
-// Whether the inner solve asks on, and the number of its question.
-fn asks_on(o: Outcome) -> bool
-    ensures { λ r. ⌜ r ≡ asksOn o ⌝ }
+// The number of TIME for any number above it, which the loop would read as a question of its own.
+fn settle_question(w: &mut [u32; 6])
+    ensures { λ _. ⌜ Settled (now (w .entry)) (now (w .exit)) ⌝ }
 {
-    match o {
-        Outcome::Asked(_) => true,
-        Outcome::Ended(_) => false,
-        Outcome::Refused(_) => false,
-        Outcome::Failed(_) => false,
-    }
-}
-
-fn asked_number(o: Outcome) -> u32
-    ensures { λ r. ⌜ r ≡ askedNumber o ⌝ }
-{
-    match o {
-        Outcome::Asked(q) => question_number(q),
-        Outcome::Ended(_) => 0,
-        Outcome::Refused(_) => 0,
-        Outcome::Failed(_) => 0,
+    if 5 < w[1] {
+        note(5, w);
     }
 }
 
@@ -117,11 +97,12 @@ pub fn answer_inner(
     requires { ⌜ (Accepted (almOf (now w) (now k) (now f) (now lw) (now lk) (now lf)) a (now v) (now plan) (now xi)) × (getD (now lw) 0 0 ≡ 3) ⌝ }
     ensures { λ r. ⌜ Answers (runOf (almOf (now (w .entry)) (now (k .entry)) (now (f .entry)) (now (lw .entry)) (now (lk .entry)) (now (lf .entry))) (before u candidate gradient previous step half fpr direction best y plus f1)) a (now (v .entry)) (now (plan .entry)) (now (plan .exit)) (now (xi .entry)) (now (xi .exit)) (gave (stepOf r (now (w .exit)) (now (k .exit)) (now (f .exit)) (now (lw .exit)) (now (lk .exit)) (now (lf .exit))) (after u candidate gradient previous step half fpr direction best y plus f1)) ⌝ }
 {
-    let solve = solve_of(w, k, f);
-    let r = take(
-        solve,
+    let r = take_lent(
         a,
         v,
+        w,
+        k,
+        f,
         u,
         candidate,
         gradient,
@@ -132,15 +113,13 @@ pub fn answer_inner(
         direction,
         best,
     );
-    let outcome = r.outcome;
-    if asks_on(outcome) {
-        let next = r.solve;
-        keep(next, w, k, f);
-        note(asked_number(outcome), w);
+    if r == 0 {
+        settle_question(w);
         return 0;
     }
+    let inner = step_of(r, w, k, f);
     let s = alm_of(w, k, f, lw, lk, lf);
-    let o = on_inner(s, r, u, best, y, plus);
+    let o = on_inner(s, inner, u, best, y, plus);
     finish(o, w, k, f, lw, lk, lf, plan, xi, u, plus)
 }
 

@@ -264,8 +264,14 @@ pub fn first_places(s: Solve) -> usize
 pub fn second_places(s: Solve) -> usize
     ensures { λ r. ⌜ r ≡ secondPlaces (s .set .n) (s .phase) ⌝ }
 {
-    let n = s.set.n;
     let phase = s.phase;
+    second_places_at(s.set.n, phase)
+}
+
+// The same at a phase.
+pub fn second_places_at(n: usize, phase: Phase) -> usize
+    ensures { λ r. ⌜ r ≡ secondPlaces n phase ⌝ }
+{
     match phase {
         Phase::Cost => 0,
         Phase::Gradient => 0,

@@ -1,9 +1,8 @@
-use Rattle.alm_image.specs.AlmImage.{almOf}
-use mathlib.Core.Path.{refl, sym, ap, _∙_}
-use Rattle.panoc_core.specs.Board as Inner
-use Rattle.alm.specs.LoopLaws.{wants-at, wants-none}
-use Rattle.alm_core.specs.declared.alm_cache.AlmPhase.the-variants as P
 use Rattle.panoc_core.specs.declared.refusals.Wanted.the-variants as W
+use Rattle.alm_core.specs.declared.alm_cache.AlmPhase.the-variants as P
+use Rattle.alm.specs.LoopLaws.{wants-at, wants-none}
+use mathlib.Core.Path.{refl, sym, _∙_}
+use Rattle.alm_image.specs.AlmImage.{almOf}
 use borrow.Author.Needs.{needs}
 use Rattle.alm_image.proofs.waiting.wants.Statement.{statement}
 use Rattle.alm_image.proofs.waiting.wants.Tie as tie
@@ -32,11 +31,8 @@ enum-told-2 c = search needs
 enum-told-3 : tie.Need-enum-told-3
 enum-told-3 c = search needs
 
-solve-of-requires : tie.Need-solve-of-requires
-solve-of-requires c κs = search needs
-
-wants-requires : tie.Need-wants-requires
-wants-requires c κs = search needs
+wants-lent-requires : tie.Need-wants-lent-requires
+wants-lent-requires c κs = search needs
 
 enum-told-4 : tie.Need-enum-told-4
 enum-told-4 c = search needs
@@ -60,7 +56,7 @@ returns-2 : tie.Need-returns-2
 returns-2 c = wants-at (almOf (c .before .before .before .before .before .before .before .before .args .w .now) (c .before .before .before .before .before .before .before .before .args .k .now) (c .before .before .before .before .before .before .before .before .args .f .now) (c .before .before .before .before .before .before .before .before .args .lw .now) (c .before .before .before .before .before .before .before .before .args .lk .now) (c .before .before .before .before .before .before .before .before .args .lf .now)) P.ProjectY _ (W.Vector _) (c .before .before .before .is-sound .ensures) (c .before .before .if1 .taken) (sym (c .before .before .before .before .before .before .alm-phase-of .ensures) ∙ c .enum-told2 .given .1) refl
 
 returns-3 : tie.Need-returns-3
-returns-3 c = wants-at (almOf (c .before .before .before .before .before .before .before .before .before .before .args .w .now) (c .before .before .before .before .before .before .before .before .before .before .args .k .now) (c .before .before .before .before .before .before .before .before .before .before .args .f .now) (c .before .before .before .before .before .before .before .before .before .before .args .lw .now) (c .before .before .before .before .before .before .before .before .before .before .args .lk .now) (c .before .before .before .before .before .before .before .before .before .before .args .lf .now)) P.Inner _ (c .wants .result) (c .before .before .before .before .before .is-sound .ensures) (c .before .before .before .before .if1 .taken) (sym (c .before .before .before .before .before .before .before .before .alm-phase-of .ensures) ∙ c .before .before .enum-told3 .given .1) (c .wants .ensures ∙ ap Inner.wantedOf (c .before .solve-of .ensures))
+returns-3 c = wants-at (almOf (c .before .before .before .before .before .before .before .before .before .args .w .now) (c .before .before .before .before .before .before .before .before .before .args .k .now) (c .before .before .before .before .before .before .before .before .before .args .f .now) (c .before .before .before .before .before .before .before .before .before .args .lw .now) (c .before .before .before .before .before .before .before .before .before .args .lk .now) (c .before .before .before .before .before .before .before .before .before .args .lf .now)) P.Inner _ (c .wants-lent .result) (c .before .before .before .before .is-sound .ensures) (c .before .before .before .if1 .taken) (sym (c .before .before .before .before .before .before .before .alm-phase-of .ensures) ∙ c .before .enum-told3 .given .1) (c .wants-lent .ensures (c .before .before .before .before .before .before .before .before .before .args .f .now))
 
 returns-4 : tie.Need-returns-4
 returns-4 c = wants-at (almOf (c .before .before .before .before .before .before .before .before .args .w .now) (c .before .before .before .before .before .before .before .before .args .k .now) (c .before .before .before .before .before .before .before .before .args .f .now) (c .before .before .before .before .before .before .before .before .args .lw .now) (c .before .before .before .before .before .before .before .before .args .lk .now) (c .before .before .before .before .before .before .before .before .args .lf .now)) P.F1 _ (W.Vector _) (c .before .before .before .is-sound .ensures) (c .before .before .if1 .taken) (sym (c .before .before .before .before .before .before .alm-phase-of .ensures) ∙ c .enum-told4 .given .1) refl
@@ -92,8 +88,7 @@ wants-spec =
     enum-told
     enum-told-2
     enum-told-3
-    solve-of-requires
-    wants-requires
+    wants-lent-requires
     enum-told-4
     enum-told-5
     enum-told-6

@@ -58,6 +58,8 @@ extern "C" {
         best: *mut Vector,
     ) -> u32;
 
+    pub fn pozkerrin_inner_place(w: *const [u32; 6]) -> u32;
+
     pub fn pozkerrin_inner_points(
         w: *const [u32; 6],
         k: *const [usize; 6],

@@ -167,6 +167,22 @@ impl Inner {
         }
     }
 
+    /// The first point of the question where it lies in the run; a call that changes the run must wait until the borrow ends. TIME and a run that
+    /// has ended have none, and then it says nothing.
+    pub fn point(&self) -> &[f64] {
+        let raw = &self.raw;
+        // SAFETY: the pointer is to the run's own numbers, which are read only.
+        let held = match unsafe { ffi::pozkerrin_inner_place(&raw.w) } {
+            1 => &raw.u_plus,
+            2 => &raw.step,
+            3 => &raw.half,
+            4 => &raw.fpr,
+            5 => &raw.best,
+            _ => &raw.u,
+        };
+        &held[..raw.k[3].min(64)]
+    }
+
     fn outcome(&self, got: u32) -> Outcome {
         let told = self.raw.w[1];
         match got {

@@ -189,3 +189,39 @@ fn solve(run: &mut Inner, plan: &mut [f64; 3]) -> End {
         };
     }
 }
+
+/// At every question the point read where it lies is the one that is copied.
+#[test]
+fn the_point_where_it_lies() {
+    let (mut run, question) = Inner::start(&settings(), &[1.0, 2.0, 3.0]).unwrap();
+    let (mut plan, mut asked) = ([0.0; 3], 0);
+    let mut outcome = Outcome::Asked(question);
+    while let Outcome::Asked(question) = outcome {
+        let (mut first, mut second) = ([f64::NAN; 3], [f64::NAN; 3]);
+        let seconds = match question {
+            Question::Direction { .. } => 3,
+            _ => 0,
+        };
+        run.points(&mut first, &mut second[..seconds]).unwrap();
+        assert_eq!(run.point(), &first);
+        asked += 1;
+        outcome = match question {
+            Question::Cost => {
+                let c: f64 = first.iter().zip([1.0, 4.0, 9.0]).map(|(x, a)| a * x * x).sum();
+                run.answer(Answer::Number(c), &mut plan)
+            }
+            Question::Gradient => {
+                let g = [2.0 * first[0], 8.0 * first[1], 18.0 * first[2]];
+                run.answer(Answer::Vector(&g), &mut plan)
+            }
+            Question::Project => {
+                let p = first.map(|x| x.clamp(0.25, 4.0));
+                run.answer(Answer::Vector(&p), &mut plan)
+            }
+            Question::Direction { .. } => run.answer(Answer::Vector(&first), &mut plan),
+            Question::Time => run.answer(Answer::Yes, &mut plan),
+        };
+    }
+    assert!(matches!(outcome, Outcome::Ended(_)), "{outcome:?}");
+    assert!(asked > 20, "only {asked} questions");
+}
