@@ -1,4 +1,4 @@
-/* Solves through the C library: the points of each question, the callback, the answer. */
+/* Solves through the C library: the point of each question where it lies, xi copied, the callback, the answer. */
 #include "bench.h"
 #include "pozkerrin.h"
 
@@ -52,52 +52,52 @@ void library_loop(const callbacks *c, const task *t, result *r, size_t *asked) {
       .max_outer_iterations = t->max_outer, .tolerance = t->tolerance, .epsilon_tolerance = t->epsilon, .delta_tolerance = t->delta,
       .initial_inner_tolerance = t->initial, .penalty_update_factor = t->penalty_factor, .epsilon_update_factor = t->epsilon_factor,
       .sufficient_decrease_coeff = t->coefficient};
-  double at[64], second[64], v[64], lent[33];
+  double xi[33], v[64], lent[33];
+  int fresh = 1; /* whether xi may be another: not within one inner solve */
   const size_t n = t->n, n1 = t->n1, n2 = t->n2, xis = pkr_xi_places(n1, n2);
   uint32_t got = pkr_loop_start(&run, &s, t->u, n, t->xi, xis);
   while (got == PKR_ASKED) {
     const uint32_t question = pkr_loop_told(&run);
-    uint32_t refused;
+    const double *at = pkr_loop_point(&run);
+    uint32_t refused = 0;
     if (asked) asked[question]++;
+    if (question > PKR_TIME) fresh = 1;
     switch (question) {
       case PKR_COST:
       case PKR_LAST_COST:
-        refused = pkr_loop_points(&run, at, n, second, xis);
-        got = pkr_loop_number(&run, c->psi(at, second, n), r->plan, n, lent, xis);
+        if (fresh) refused = pkr_loop_second(&run, xi, xis);
+        fresh = 0;
+        got = pkr_loop_number(&run, c->psi(at, xi, n), r->plan, n, lent, xis);
         break;
       case PKR_GRADIENT:
-        refused = pkr_loop_points(&run, at, n, second, xis);
-        c->d_psi(at, second, v, n);
+        if (fresh) refused = pkr_loop_second(&run, xi, xis);
+        fresh = 0;
+        c->d_psi(at, xi, v, n);
         got = pkr_loop_vector(&run, v, n, r->plan, n, lent, xis);
         break;
       case PKR_PROJECT:
-        refused = pkr_loop_points(&run, at, n, second, 0);
         c->project(at, v, n);
         got = pkr_loop_vector(&run, v, n, r->plan, n, lent, xis);
         break;
       case PKR_DIRECTION:
       case PKR_DIRECTION_FORGET:
-        refused = pkr_loop_points(&run, at, n, second, n);
-        c->direction(question == PKR_DIRECTION_FORGET, at, second, v, n);
+        c->direction(question == PKR_DIRECTION_FORGET, at, pkr_loop_u(&run), v, n);
         got = pkr_loop_vector(&run, v, n, r->plan, n, lent, xis);
         break;
       case PKR_F1:
-        refused = pkr_loop_points(&run, at, n, second, 0);
         c->f1(at, v, n);
         got = pkr_loop_vector(&run, v, n1, r->plan, n, lent, xis);
         break;
       case PKR_PROJECT_C:
-        refused = pkr_loop_points(&run, at, n1, second, 0);
         c->project_c(at, v, n1);
         got = pkr_loop_vector(&run, v, n1, r->plan, n, lent, xis);
         break;
       default: /* F2 */
-        refused = pkr_loop_points(&run, at, n, second, 0);
         c->f2(at, v, n);
         got = pkr_loop_vector(&run, v, n2, r->plan, n, lent, xis);
         break;
     }
-    if (refused) stop("points refused", refused);
+    if (refused) stop("xi refused", refused);
   }
   if (got != PKR_ENDED) stop("loop refused", pkr_loop_told(&run));
   r->end = pkr_loop_told(&run);

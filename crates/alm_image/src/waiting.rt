@@ -2,9 +2,11 @@
 ghost use mathlib.Core.Path.{_≡_};
 ghost use Rattle.panoc_core.specs.Values.{kindOf};
 ghost use Rattle.alm_core.specs.Rest.{sized, counts, sound};
-ghost use Rattle.alm.specs.LoopCalls.{wantedOf};
+ghost use Rattle.alm.specs.LoopCalls.{wantedAt, wantedOf};
+ghost use Rattle.alm_core.specs.declared.alm_cache.AlmPhase.the-variants as P;
 ghost use Rattle.alm_image.specs.AlmImage.{almOf};
 use crate::kinds::alm_phase_of;
+use alm_core::alm_cache::Alm;
 use alm_core::alm_cache::AlmPhase;
 use panoc_answers::wanted::wants_lent;
 use panoc_core::refusals::Wanted;
@@ -71,20 +73,31 @@ pub fn is_sound(
 ) -> bool
     ensures { λ r. ⌜ r ≡ sound (almOf (now (w .entry)) (now (k .entry)) (now (f .entry)) (now (lw .entry)) (now (lk .entry)) (now (lf .entry))) ⌝ }
 {
-    let phase = alm_phase_of(lw[0]);
     if is_sized(w, k, f, lw, lk, lf) {
-        match phase {
-            AlmPhase::LastCost => true,
-            AlmPhase::Time => is_counted(w, k, f, lw, lk, lf),
-            AlmPhase::ProjectY => is_counted(w, k, f, lw, lk, lf),
-            AlmPhase::Inner => is_counted(w, k, f, lw, lk, lf),
-            AlmPhase::F1 => is_counted(w, k, f, lw, lk, lf),
-            AlmPhase::ProjectC => is_counted(w, k, f, lw, lk, lf),
-            AlmPhase::F2 => is_counted(w, k, f, lw, lk, lf),
-            AlmPhase::Over => is_counted(w, k, f, lw, lk, lf),
+        if lw[0] == 7 {
+            true
+        } else {
+            is_counted(w, k, f, lw, lk, lf)
         }
     } else {
         false
+    }
+}
+
+// What a run that waits with a question of the loop itself waits for.
+pub fn wants_own(phase: AlmPhase, n1: usize, n2: usize) -> Wanted
+    requires { ⌜ (phase ≡ P.Inner → ⊥) ⌝ }
+    ensures { λ r. ⌜ ((s : Alm) → s .set .n1 ≡ n1 → s .set .n2 ≡ n2 → kindOf r ≡ wantedAt s phase) ⌝ }
+{
+    match phase {
+        AlmPhase::Time => Wanted::Decision,
+        AlmPhase::ProjectY => Wanted::Vector(n1),
+        AlmPhase::Inner => Wanted::Nothing,
+        AlmPhase::F1 => Wanted::Vector(n1),
+        AlmPhase::ProjectC => Wanted::Vector(n1),
+        AlmPhase::F2 => Wanted::Vector(n2),
+        AlmPhase::LastCost => Wanted::Number,
+        AlmPhase::Over => Wanted::Nothing,
     }
 }
 
@@ -99,19 +112,11 @@ pub fn wants(
 ) -> Wanted
     ensures { λ r. ⌜ kindOf r ≡ wantedOf (almOf (now (w .entry)) (now (k .entry)) (now (f .entry)) (now (lw .entry)) (now (lk .entry)) (now (lf .entry))) ⌝ }
 {
-    let phase = alm_phase_of(lw[0]);
-    let n1 = lk[5];
-    let n2 = lk[6];
     if is_sound(w, k, f, lw, lk, lf) {
-        match phase {
-            AlmPhase::Time => Wanted::Decision,
-            AlmPhase::ProjectY => Wanted::Vector(n1),
-            AlmPhase::Inner => wants_lent(w, k),
-            AlmPhase::F1 => Wanted::Vector(n1),
-            AlmPhase::ProjectC => Wanted::Vector(n1),
-            AlmPhase::F2 => Wanted::Vector(n2),
-            AlmPhase::LastCost => Wanted::Number,
-            AlmPhase::Over => Wanted::Nothing,
+        if lw[0] == 3 {
+            wants_lent(w, k)
+        } else {
+            wants_own(alm_phase_of(lw[0]), lk[5], lk[6])
         }
     } else {
         Wanted::Nothing

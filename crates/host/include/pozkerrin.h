@@ -153,6 +153,9 @@ uint32_t pozkerrin_loop_points(const pkr_w6 *w, const pkr_k6 *k, const pkr_f13 *
     const pkr_f17 *lf, double *first, size_t firsts, double *second, size_t seconds, const pkr_vector *u, const pkr_vector *u_plus,
     const pkr_vector *step, const pkr_vector *half, const pkr_vector *fpr, const pkr_vector *best, const pkr_vector *y,
     const pkr_vector *y_plus);
+uint32_t pozkerrin_loop_second(const pkr_w6 *w, const pkr_k6 *k, const pkr_f13 *f, const pkr_w4 *lw, const pkr_k10 *lk,
+    const pkr_f17 *lf, double *second, size_t seconds, const pkr_vector *u, const pkr_vector *y);
+uint32_t pozkerrin_loop_place(const pkr_w6 *w, const pkr_w4 *lw);
 
 uint32_t pozkerrin_psi_start(pkr_w2 *w, pkr_k3 *k, pkr_f3 *f, size_t n, size_t n1, size_t n2, const double *at, size_t ats,
     const double *xi, size_t xis, pkr_vector *u, pkr_vector *y);
@@ -285,6 +288,31 @@ static inline uint32_t pkr_loop_points(const pkr_loop *r, double *first, size_t 
       (const pkr_k10 *)&r->lk, (const pkr_f17 *)&r->lf, first, firsts, second, seconds, (const pkr_vector *)&r->u,
       (const pkr_vector *)&r->u_plus, (const pkr_vector *)&r->step, (const pkr_vector *)&r->half, (const pkr_vector *)&r->fpr,
       (const pkr_vector *)&r->best, (const pkr_vector *)&r->y, (const pkr_vector *)&r->y_plus);
+}
+
+/* The first point of the question where it lies in the run: its numbers stand until the next call. Nothing is to be read for TIME or after
+ * the end. */
+static inline const double *pkr_loop_point(const pkr_loop *r) {
+  switch (pozkerrin_loop_place((const pkr_w6 *)&r->w, (const pkr_w4 *)&r->lw)) {
+    case 1: return r->u_plus;
+    case 2: return r->step;
+    case 3: return r->half;
+    case 4: return r->fpr;
+    case 5: return r->best;
+    case 6: return r->y;
+    case 7: return r->y_plus;
+    default: return r->u;
+  }
+}
+
+/* The second point of DIRECTION where it lies. */
+static inline const double *pkr_loop_u(const pkr_loop *r) { return r->u; }
+
+/* Copies the second point of the question alone, xi or u: 0, or 6 (ended) or 8 (not as long as that point). Within one inner solve, that is
+ * until a question above PKR_TIME is asked, xi stays the same. */
+static inline uint32_t pkr_loop_second(const pkr_loop *r, double *second, size_t seconds) {
+  return pozkerrin_loop_second((const pkr_w6 *)&r->w, (const pkr_k6 *)&r->k, (const pkr_f13 *)&r->f, (const pkr_w4 *)&r->lw,
+      (const pkr_k10 *)&r->lk, (const pkr_f17 *)&r->lf, second, seconds, (const pkr_vector *)&r->u, (const pkr_vector *)&r->y);
 }
 
 /* The question, end, refusal or code of the last start or answer. */

@@ -40,7 +40,7 @@ use Rattle.alm.specs.LoopLaws.{wanted-is, inner-refusal, inner-ready, inner-n, 
 use Rattle.image.specs.Image as I
 use Rattle.image.specs.Image.{solveOf, replyOf, strange, noted}
 use Rattle.image.specs.Rounds.{strange-round}
-use Rattle.alm_image.specs.AlmImage.{phaseOf, phaseNumber, questionOf, almOf, stepOf}
+use Rattle.alm_image.specs.AlmImage.{phaseOf, questionOf, almOf, stepOf}
 use Rattle.host_loop.specs.Exports.{Exported, Accepted, HandsOut, Settled}
 
 none-lent : Board
@@ -93,21 +93,6 @@ module _ (kind : ℕ) (x : Float) (code : ℕ) (v us xs : List Float) (w w′ k 
 pub accepted-as : (s : Alm) (a : Reply) (v us xs : List Float) (wd : Wanted) (t : Bool) (m : ℕ) → kindOf wd ≡ wantedOf s → t ≡ lentRight (s .set) (length us) (length xs)
     → m ≡ answerRefusal (kindOf wd) (Inner.replyOf a) (length v) t → m ≡ 0 → Accepted s a v us xs
 accepted-as s a v us xs wd t m e te q z = ap (answerRefusal (wantedOf s) (Inner.replyOf a) (length v)) (sym te) ∙ sym (refusal-wanted s wd a (length v) t e q) ∙ z
-
--- 3 is the number of the inner solve's phase alone
-inner-three : (p : ℕ) → phaseNumber (phaseOf p) ≡ 3 → p ≡ 3
-inner-three zero e = absurd (omega (arith, e))
-inner-three (suc zero) e = absurd (omega (arith, e))
-inner-three (suc (suc zero)) e = absurd (omega (arith, e))
-inner-three (suc (suc (suc zero))) e = refl
-inner-three (suc (suc (suc (suc zero)))) e = absurd (omega (arith, e))
-inner-three (suc (suc (suc (suc (suc zero))))) e = absurd (omega (arith, e))
-inner-three (suc (suc (suc (suc (suc (suc zero)))))) e = absurd (omega (arith, e))
-inner-three (suc (suc (suc (suc (suc (suc (suc zero))))))) e = absurd (omega (arith, e))
-inner-three (suc (suc (suc (suc (suc (suc (suc (suc n)))))))) e = absurd (omega (arith, e))
-
-pub not-inner : (p : ℕ) → (p ≡ 3 → ⊥) → phaseOf p ≡ P.Inner → ⊥
-not-inner p h e = h (inner-three p (ap phaseNumber e))
 
 pub blank : LoopBoard
 blank = record { inner = none-lent; y = []; yPlus = []; w = [] }

@@ -1,11 +1,20 @@
-use Rattle.panoc_core.specs.declared.refusals.Wanted.the-variants as W
-use Rattle.alm_core.specs.declared.alm_cache.AlmPhase.the-variants as P
 use Rattle.alm.specs.LoopLaws.{wants-at, wants-none}
-use mathlib.Core.Path.{refl, sym, _∙_}
-use Rattle.alm_image.specs.AlmImage.{almOf}
+use Rattle.alm_image.proofs.Phases.{not-last, not-inner}
+use Rattle.alm_core.specs.declared.alm_cache.AlmPhase.the-variants as P
+use Rattle.alm_image.specs.AlmImage.{almOf, phaseOf}
+use mathlib.Core.Path.{refl, sym, ap, _∙_}
 use borrow.Author.Needs.{needs}
 use Rattle.alm_image.proofs.waiting.wants.Statement.{statement}
 use Rattle.alm_image.proofs.waiting.wants.Tie as tie
+
+is-sound-requires : tie.Need-is-sound-requires
+is-sound-requires c κs = search needs
+
+element-copy-out-if2 : tie.Need-element-copy-out-if2
+element-copy-out-if2 c = search needs
+
+wants-lent-requires : tie.Need-wants-lent-requires
+wants-lent-requires c κs = search needs
 
 element-copy-out-alm-phase-of : tie.Need-element-copy-out-alm-phase-of
 element-copy-out-alm-phase-of c = search needs
@@ -13,93 +22,36 @@ element-copy-out-alm-phase-of c = search needs
 alm-phase-of-requires : tie.Need-alm-phase-of-requires
 alm-phase-of-requires c κs = search needs
 
-element-copy-out-n1 : tie.Need-element-copy-out-n1
-element-copy-out-n1 c = search needs
+element-copy-out-wants-own : tie.Need-element-copy-out-wants-own
+element-copy-out-wants-own c = search needs
 
-element-copy-out-n2 : tie.Need-element-copy-out-n2
-element-copy-out-n2 c = search needs
+element-copy-out-wants-own-2 : tie.Need-element-copy-out-wants-own-2
+element-copy-out-wants-own-2 c = search needs
 
-is-sound-requires : tie.Need-is-sound-requires
-is-sound-requires c κs = search needs
-
-enum-told : tie.Need-enum-told
-enum-told c = search needs
-
-enum-told-2 : tie.Need-enum-told-2
-enum-told-2 c = search needs
-
-enum-told-3 : tie.Need-enum-told-3
-enum-told-3 c = search needs
-
-wants-lent-requires : tie.Need-wants-lent-requires
-wants-lent-requires c κs = search needs
-
-enum-told-4 : tie.Need-enum-told-4
-enum-told-4 c = search needs
-
-enum-told-5 : tie.Need-enum-told-5
-enum-told-5 c = search needs
-
-enum-told-6 : tie.Need-enum-told-6
-enum-told-6 c = search needs
-
-enum-told-7 : tie.Need-enum-told-7
-enum-told-7 c = search needs
-
-enum-told-8 : tie.Need-enum-told-8
-enum-told-8 c = search needs
+wants-own-requires : tie.Need-wants-own-requires
+wants-own-requires c κs = λ e. not-inner _ (c .before .before .before .before .if2 .left) (sym (c .before .before .alm-phase-of .ensures) ∙ e)
 
 returns : tie.Need-returns
-returns c = wants-at (almOf (c .before .before .before .before .before .before .before .before .args .w .now) (c .before .before .before .before .before .before .before .before .args .k .now) (c .before .before .before .before .before .before .before .before .args .f .now) (c .before .before .before .before .before .before .before .before .args .lw .now) (c .before .before .before .before .before .before .before .before .args .lk .now) (c .before .before .before .before .before .before .before .before .args .lf .now)) P.Time _ W.Decision (c .before .before .before .is-sound .ensures) (c .before .before .if1 .taken) (sym (c .before .before .before .before .before .before .alm-phase-of .ensures) ∙ c .enum-told .given .1) refl
+returns c = wants-at (almOf (c .before .before .before .before .before .args .w .now) (c .before .before .before .before .before .args .k .now) (c .before .before .before .before .before .args .f .now) (c .before .before .before .before .before .args .lw .now) (c .before .before .before .before .before .args .lk .now) (c .before .before .before .before .before .args .lf .now)) P.Inner _ (c .wants-lent .result) (c .before .before .before .before .is-sound .ensures) (c .before .before .before .if1 .taken) (ap phaseOf (c .before .if2 .taken)) (c .wants-lent .ensures (c .before .before .before .before .before .args .f .now))
 
 returns-2 : tie.Need-returns-2
-returns-2 c = wants-at (almOf (c .before .before .before .before .before .before .before .before .args .w .now) (c .before .before .before .before .before .before .before .before .args .k .now) (c .before .before .before .before .before .before .before .before .args .f .now) (c .before .before .before .before .before .before .before .before .args .lw .now) (c .before .before .before .before .before .before .before .before .args .lk .now) (c .before .before .before .before .before .before .before .before .args .lf .now)) P.ProjectY _ (W.Vector _) (c .before .before .before .is-sound .ensures) (c .before .before .if1 .taken) (sym (c .before .before .before .before .before .before .alm-phase-of .ensures) ∙ c .enum-told2 .given .1) refl
+returns-2 c = wants-at (almOf (c .before .before .before .before .before .before .before .before .before .args .w .now) (c .before .before .before .before .before .before .before .before .before .args .k .now) (c .before .before .before .before .before .before .before .before .before .args .f .now) (c .before .before .before .before .before .before .before .before .before .args .lw .now) (c .before .before .before .before .before .before .before .before .before .args .lk .now) (c .before .before .before .before .before .before .before .before .before .args .lf .now)) _ _ (c .wants-own .result) (c .before .before .before .before .before .before .before .before .is-sound .ensures) (c .before .before .before .before .before .before .before .if1 .taken) (sym (c .before .before .before .alm-phase-of .ensures)) (c .wants-own .ensures (almOf (c .before .before .before .before .before .before .before .before .before .args .w .now) (c .before .before .before .before .before .before .before .before .before .args .k .now) (c .before .before .before .before .before .before .before .before .before .args .f .now) (c .before .before .before .before .before .before .before .before .before .args .lw .now) (c .before .before .before .before .before .before .before .before .before .args .lk .now) (c .before .before .before .before .before .before .before .before .before .args .lf .now)) refl refl)
 
 returns-3 : tie.Need-returns-3
-returns-3 c = wants-at (almOf (c .before .before .before .before .before .before .before .before .before .args .w .now) (c .before .before .before .before .before .before .before .before .before .args .k .now) (c .before .before .before .before .before .before .before .before .before .args .f .now) (c .before .before .before .before .before .before .before .before .before .args .lw .now) (c .before .before .before .before .before .before .before .before .before .args .lk .now) (c .before .before .before .before .before .before .before .before .before .args .lf .now)) P.Inner _ (c .wants-lent .result) (c .before .before .before .before .is-sound .ensures) (c .before .before .before .if1 .taken) (sym (c .before .before .before .before .before .before .before .alm-phase-of .ensures) ∙ c .before .enum-told3 .given .1) (c .wants-lent .ensures (c .before .before .before .before .before .before .before .before .before .args .f .now))
-
-returns-4 : tie.Need-returns-4
-returns-4 c = wants-at (almOf (c .before .before .before .before .before .before .before .before .args .w .now) (c .before .before .before .before .before .before .before .before .args .k .now) (c .before .before .before .before .before .before .before .before .args .f .now) (c .before .before .before .before .before .before .before .before .args .lw .now) (c .before .before .before .before .before .before .before .before .args .lk .now) (c .before .before .before .before .before .before .before .before .args .lf .now)) P.F1 _ (W.Vector _) (c .before .before .before .is-sound .ensures) (c .before .before .if1 .taken) (sym (c .before .before .before .before .before .before .alm-phase-of .ensures) ∙ c .enum-told4 .given .1) refl
-
-returns-5 : tie.Need-returns-5
-returns-5 c = wants-at (almOf (c .before .before .before .before .before .before .before .before .args .w .now) (c .before .before .before .before .before .before .before .before .args .k .now) (c .before .before .before .before .before .before .before .before .args .f .now) (c .before .before .before .before .before .before .before .before .args .lw .now) (c .before .before .before .before .before .before .before .before .args .lk .now) (c .before .before .before .before .before .before .before .before .args .lf .now)) P.ProjectC _ (W.Vector _) (c .before .before .before .is-sound .ensures) (c .before .before .if1 .taken) (sym (c .before .before .before .before .before .before .alm-phase-of .ensures) ∙ c .enum-told5 .given .1) refl
-
-returns-6 : tie.Need-returns-6
-returns-6 c = wants-at (almOf (c .before .before .before .before .before .before .before .before .args .w .now) (c .before .before .before .before .before .before .before .before .args .k .now) (c .before .before .before .before .before .before .before .before .args .f .now) (c .before .before .before .before .before .before .before .before .args .lw .now) (c .before .before .before .before .before .before .before .before .args .lk .now) (c .before .before .before .before .before .before .before .before .args .lf .now)) P.F2 _ (W.Vector _) (c .before .before .before .is-sound .ensures) (c .before .before .if1 .taken) (sym (c .before .before .before .before .before .before .alm-phase-of .ensures) ∙ c .enum-told6 .given .1) refl
-
-returns-7 : tie.Need-returns-7
-returns-7 c = wants-at (almOf (c .before .before .before .before .before .before .before .before .args .w .now) (c .before .before .before .before .before .before .before .before .args .k .now) (c .before .before .before .before .before .before .before .before .args .f .now) (c .before .before .before .before .before .before .before .before .args .lw .now) (c .before .before .before .before .before .before .before .before .args .lk .now) (c .before .before .before .before .before .before .before .before .args .lf .now)) P.LastCost _ W.Number (c .before .before .before .is-sound .ensures) (c .before .before .if1 .taken) (sym (c .before .before .before .before .before .before .alm-phase-of .ensures) ∙ c .enum-told7 .given .1) refl
-
-returns-8 : tie.Need-returns-8
-returns-8 c = wants-at (almOf (c .before .before .before .before .before .before .before .before .args .w .now) (c .before .before .before .before .before .before .before .before .args .k .now) (c .before .before .before .before .before .before .before .before .args .f .now) (c .before .before .before .before .before .before .before .before .args .lw .now) (c .before .before .before .before .before .before .before .before .args .lk .now) (c .before .before .before .before .before .before .before .before .args .lf .now)) P.Over _ W.Nothing (c .before .before .before .is-sound .ensures) (c .before .before .if1 .taken) (sym (c .before .before .before .before .before .before .alm-phase-of .ensures) ∙ c .enum-told8 .given .1) refl
-
-returns-9 : tie.Need-returns-9
-returns-9 c = wants-none (almOf (c .before .before .before .before .before .before .args .w .now) (c .before .before .before .before .before .before .args .k .now) (c .before .before .before .before .before .before .args .f .now) (c .before .before .before .before .before .before .args .lw .now) (c .before .before .before .before .before .before .args .lk .now) (c .before .before .before .before .before .before .args .lf .now)) _ (c .before .is-sound .ensures) (c .if1 .left)
+returns-3 c = wants-none (almOf (c .before .before .args .w .now) (c .before .before .args .k .now) (c .before .before .args .f .now) (c .before .before .args .lw .now) (c .before .before .args .lk .now) (c .before .before .args .lf .now)) _ (c .before .is-sound .ensures) (c .if1 .left)
 
 pub wants-spec : {M : Type 1} → statement M
 wants-spec =
     tie.close
     (tie.spec
+    is-sound-requires
+    element-copy-out-if2
+    wants-lent-requires
     element-copy-out-alm-phase-of
     alm-phase-of-requires
-    element-copy-out-n1
-    element-copy-out-n2
-    is-sound-requires
-    enum-told
-    enum-told-2
-    enum-told-3
-    wants-lent-requires
-    enum-told-4
-    enum-told-5
-    enum-told-6
-    enum-told-7
-    enum-told-8
+    element-copy-out-wants-own
+    element-copy-out-wants-own-2
+    wants-own-requires
     returns
     returns-2
-    returns-3
-    returns-4
-    returns-5
-    returns-6
-    returns-7
-    returns-8
-    returns-9)
+    returns-3)

@@ -1,6 +1,7 @@
 use mathlib.Core.Path.{sym}
 use Rattle.alm_image.specs.AlmImage.{almOf}
-use Rattle.host_loop.proofs.Laws.{own-may, own-takes, not-inner, short, short-xi, settles, blank}
+use Rattle.host_loop.proofs.Laws.{own-may, own-takes, short, short-xi, settles, blank}
+use Rattle.alm_image.proofs.Phases.{not-inner}
 use borrow.Author.Needs.{needs}
 use Rattle.host_loop.proofs.answers.answer_own.Statement.{statement}
 use Rattle.host_loop.proofs.answers.answer_own.Tie as tie
