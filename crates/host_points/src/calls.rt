@@ -6,6 +6,7 @@ ghost use Rattle.alm_core.specs.Rest.{LoopBoard};
 ghost use Rattle.alm_core.specs.Board.{setU, setY};
 ghost use Rattle.alm.specs.LoopCalls.{Points, runOf};
 ghost use Rattle.alm.specs.LoopPoints.{asked};
+ghost use Rattle.alm_core.specs.declared.alm_cache.AlmPhase.the-variants as P;
 ghost use Rattle.alm_image.specs.AlmImage.{almOf};
 ghost use Rattle.host_points.specs.Exports.{Second, placeOf, Lies};
 ghost use mathlib.Core.Path.{_≡_};
@@ -16,6 +17,7 @@ use alm_core::alm_cache::AlmPhase;
 use alm_image::kinds::alm_phase_of;
 use alm_image::lent::alm_of;
 use alm_image::waiting::wants;
+use host::inner::place_of;
 use image::kinds::phase_of;
 use panoc_answers::wanted::waits;
 use panoc_core::panoc_cache::Phase;
@@ -85,15 +87,16 @@ pub extern "C" fn pozkerrin_loop_second(
     }
 }
 
-// The vector that holds the first point of a phase's question: those of the inner solve by its numbers, 6 y, 7 y_plus.
-fn place_of(phase: AlmPhase, inner: Phase) -> u32
-    ensures { λ r. ⌜ r ≡ placeOf phase inner ⌝ }
+// The vector that holds the first point of a question of the loop itself: 0 u, 5 the best half step, 6 y, 7 y_plus.
+fn own_place_of(phase: AlmPhase) -> u32
+    requires { ⌜ (phase ≡ P.Inner → ⊥) ⌝ }
+    ensures { λ r. ⌜ ((p : Phase) → r ≡ placeOf phase p) ⌝ }
 {
     match phase {
         AlmPhase::Over => 0,
         AlmPhase::Time => 0,
         AlmPhase::ProjectY => 6,
-        AlmPhase::Inner => host::inner::place_of(inner),
+        AlmPhase::Inner => 0,
         AlmPhase::F1 => 5,
         AlmPhase::ProjectC => 7,
         AlmPhase::F2 => 5,
@@ -101,10 +104,15 @@ fn place_of(phase: AlmPhase, inner: Phase) -> u32
     }
 }
 
-// Where the first point of the question of a run lies: the number of the vector that has it in its first places.
+// Where the first point of the question of a run lies: the number of the vector that has it in its first places, for a question of the inner
+// solve by its numbers.
 #[no_mangle]
 pub extern "C" fn pozkerrin_loop_place(w: &[u32; 6], lw: &[u32; 4]) -> u32
     ensures { λ r. ⌜ ((k lk : List ℕ) (f lf : List Float) (b : LoopBoard) → Lies (almOf (now (w .entry)) k f (now (lw .entry)) lk lf) b r) ⌝ }
 {
-    place_of(alm_phase_of(lw[0]), phase_of(w[0]))
+    if lw[0] == 3 {
+        place_of(phase_of(w[0]))
+    } else {
+        own_place_of(alm_phase_of(lw[0]))
+    }
 }

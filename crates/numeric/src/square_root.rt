@@ -56,8 +56,13 @@ fn pattern(m: u64) -> u64
     }
 }
 
-// One of Newton's steps to the inverse root of 2 * h.
+// One of Newton's steps to the inverse root of 2 * h, its products waiting for each other as little as may be; the last is written so that
+// it rounds best.
 fn step(h: f64, y: f64) -> f64 {
+    1.5 * y - (h * y) * (y * y)
+}
+
+fn last_step(h: f64, y: f64) -> f64 {
     y * (1.5 - h * y * y)
 }
 
@@ -69,7 +74,7 @@ fn guess(m: u64) -> u64
     let p = pattern(m);
     let s = f64::from_bits(p);
     let h = 0.5 * s;
-    let y = step(h, step(h, step(h, f64::from_bits(INVERSE - p / 2))));
+    let y = last_step(h, step(h, step(h, f64::from_bits(INVERSE - p / 2))));
     let g = s * y;
     let r = g + (s - g * g) * (0.5 * y);
     if r != r {

@@ -25,8 +25,8 @@ step-requires c κs = search needs
 step-requires-2 : tie.Need-step-requires-2
 step-requires-2 c κs = search needs
 
-step-requires-3 : tie.Need-step-requires-3
-step-requires-3 c κs = search needs
+last-step-requires : tie.Need-last-step-requires
+last-step-requires c κs = search needs
 
 returns : tie.Need-returns
 returns c = search needs
@@ -50,7 +50,7 @@ guess-spec =
     float-from-bits-step
     step-requires
     step-requires-2
-    step-requires-3
+    last-step-requires
     returns
     float-to-bits-result
     add-result
