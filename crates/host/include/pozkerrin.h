@@ -135,6 +135,11 @@ uint32_t pozkerrin_inner_start(pkr_w6 *w, pkr_k6 *k, pkr_f13 *f, size_t n, size_
 uint32_t pozkerrin_inner_answer(pkr_w6 *w, pkr_k6 *k, pkr_f13 *f, uint32_t kind, double x, uint32_t code, const double *v, size_t vs,
     double *plan, size_t plans, pkr_vector *u, pkr_vector *u_plus, pkr_vector *gradient, pkr_vector *previous, pkr_vector *step,
     pkr_vector *half, pkr_vector *fpr, pkr_vector *direction, pkr_vector *best);
+uint32_t pozkerrin_inner_number(pkr_w6 *w, pkr_k6 *k, pkr_f13 *f, double x, double *plan, size_t plans, const pkr_vector *u,
+    const pkr_vector *gradient, pkr_vector *step, const pkr_vector *half, pkr_vector *fpr, const pkr_vector *best);
+uint32_t pozkerrin_inner_vector(pkr_w6 *w, pkr_k6 *k, pkr_f13 *f, const double *v, size_t vs, double *plan, size_t plans, pkr_vector *u,
+    pkr_vector *u_plus, pkr_vector *gradient, pkr_vector *previous, pkr_vector *step, pkr_vector *half, pkr_vector *fpr,
+    pkr_vector *direction, pkr_vector *best);
 uint32_t pozkerrin_inner_points(const pkr_w6 *w, const pkr_k6 *k, const pkr_f13 *f, double *first, size_t firsts, double *second,
     size_t seconds, const pkr_vector *u, const pkr_vector *u_plus, const pkr_vector *step, const pkr_vector *half,
     const pkr_vector *fpr, const pkr_vector *best);
@@ -149,6 +154,13 @@ uint32_t pozkerrin_loop_answer(pkr_w6 *w, pkr_k6 *k, pkr_f13 *f, pkr_w4 *lw, pkr
     uint32_t code, const double *v, size_t vs, double *plan, size_t plans, double *xi, size_t xis, pkr_vector *u, pkr_vector *u_plus,
     pkr_vector *gradient, pkr_vector *previous, pkr_vector *step, pkr_vector *half, pkr_vector *fpr, pkr_vector *direction,
     pkr_vector *best, pkr_vector *y, pkr_vector *y_plus, pkr_vector *f1);
+uint32_t pozkerrin_loop_number(pkr_w6 *w, pkr_k6 *k, pkr_f13 *f, pkr_w4 *lw, pkr_k10 *lk, pkr_f17 *lf, double x, double *plan,
+    size_t plans, double *xi, size_t xis, pkr_vector *u, const pkr_vector *gradient, pkr_vector *step, const pkr_vector *half,
+    pkr_vector *fpr, const pkr_vector *best, pkr_vector *y, const pkr_vector *y_plus);
+uint32_t pozkerrin_loop_vector(pkr_w6 *w, pkr_k6 *k, pkr_f13 *f, pkr_w4 *lw, pkr_k10 *lk, pkr_f17 *lf, const double *v, size_t vs,
+    double *plan, size_t plans, double *xi, size_t xis, pkr_vector *u, pkr_vector *u_plus, pkr_vector *gradient,
+    pkr_vector *previous, pkr_vector *step, pkr_vector *half, pkr_vector *fpr, pkr_vector *direction, pkr_vector *best, pkr_vector *y,
+    pkr_vector *y_plus, pkr_vector *f1);
 uint32_t pozkerrin_loop_points(const pkr_w6 *w, const pkr_k6 *k, const pkr_f13 *f, const pkr_w4 *lw, const pkr_k10 *lk,
     const pkr_f17 *lf, double *first, size_t firsts, double *second, size_t seconds, const pkr_vector *u, const pkr_vector *u_plus,
     const pkr_vector *step, const pkr_vector *half, const pkr_vector *fpr, const pkr_vector *best, const pkr_vector *y,
@@ -179,7 +191,8 @@ static inline uint32_t pkr_inner_start(pkr_inner *r, const pkr_inner_settings *s
       u, us, &r->u);
 }
 
-/* Takes an answer of any kind: x is a number, v a vector, code a failure's. The plan (n places) is written at an end alone. */
+/* Takes an answer of any kind: x is a number, v a vector, code a failure's. The plan (n places) is written at an end alone. The calls below
+ * take one kind; those for a number and a vector are quicker. */
 static inline uint32_t pkr_inner_answer(pkr_inner *r, uint32_t kind, double x, uint32_t code, const double *v, size_t vs,
     double *plan, size_t plans) {
   return pozkerrin_inner_answer(&r->w, &r->k, &r->f, kind, x, code, v, vs, plan, plans, &r->u, &r->u_plus, &r->gradient,
@@ -188,13 +201,14 @@ static inline uint32_t pkr_inner_answer(pkr_inner *r, uint32_t kind, double x, u
 
 /* Takes a number. */
 static inline uint32_t pkr_inner_number(pkr_inner *r, double x, double *plan, size_t plans) {
-  const double none = 0;
-  return pkr_inner_answer(r, PKR_NUMBER, x, 0, &none, 0, plan, plans);
+  return pozkerrin_inner_number(&r->w, &r->k, &r->f, x, plan, plans, (const pkr_vector *)&r->u, (const pkr_vector *)&r->gradient,
+      &r->step, (const pkr_vector *)&r->half, &r->fpr, (const pkr_vector *)&r->best);
 }
 
 /* Takes a vector. */
 static inline uint32_t pkr_inner_vector(pkr_inner *r, const double *v, size_t vs, double *plan, size_t plans) {
-  return pkr_inner_answer(r, PKR_VECTOR, 0, 0, v, vs, plan, plans);
+  return pozkerrin_inner_vector(&r->w, &r->k, &r->f, v, vs, plan, plans, &r->u, &r->u_plus, &r->gradient, &r->previous, &r->step,
+      &r->half, &r->fpr, &r->direction, &r->best);
 }
 
 /* Takes a yes, or a no where it is 0. */
@@ -261,13 +275,15 @@ static inline uint32_t pkr_loop_answer(pkr_loop *r, uint32_t kind, double x, uin
 
 /* Takes a number. */
 static inline uint32_t pkr_loop_number(pkr_loop *r, double x, double *plan, size_t plans, double *xi, size_t xis) {
-  const double none = 0;
-  return pkr_loop_answer(r, PKR_NUMBER, x, 0, &none, 0, plan, plans, xi, xis);
+  return pozkerrin_loop_number(&r->w, &r->k, &r->f, &r->lw, &r->lk, &r->lf, x, plan, plans, xi, xis, &r->u,
+      (const pkr_vector *)&r->gradient, &r->step, (const pkr_vector *)&r->half, &r->fpr, (const pkr_vector *)&r->best, &r->y,
+      (const pkr_vector *)&r->y_plus);
 }
 
 /* Takes a vector. */
 static inline uint32_t pkr_loop_vector(pkr_loop *r, const double *v, size_t vs, double *plan, size_t plans, double *xi, size_t xis) {
-  return pkr_loop_answer(r, PKR_VECTOR, 0, 0, v, vs, plan, plans, xi, xis);
+  return pozkerrin_loop_vector(&r->w, &r->k, &r->f, &r->lw, &r->lk, &r->lf, v, vs, plan, plans, xi, xis, &r->u, &r->u_plus,
+      &r->gradient, &r->previous, &r->step, &r->half, &r->fpr, &r->direction, &r->best, &r->y, &r->y_plus, &r->f1);
 }
 
 /* Takes a yes, or a no where it is 0. */

@@ -1,0 +1,1 @@
+// Laws only: an answer to an inner solve on lent numbers.
