@@ -24,8 +24,8 @@ use Rattle.panoc_core.specs.Values.{kindOf}
 use Rattle.panoc_core.specs.Values as Inner
 use Rattle.panoc_core.specs.Board.{Board, Begins, Takes, runOf, gave, given, setU, waiting, wantedOf}
 use Rattle.panoc_core.specs.Wanted.{wanted-is}
-use Rattle.panoc.specs.Calls.{Answers, Points}
-use Rattle.panoc.proofs.CallLaws.{answer-goes, answer-refused, answer-fits, answer-length, refusal-wanted}
+use Rattle.panoc_core.specs.Calls.{Answers, Points}
+use Rattle.panoc_answers.proofs.AnswerLaws.{answer-goes, answer-refused, answer-fits, answer-length, refusal-wanted}
 use Rattle.image.specs.Image.{solveOf, replyOf, strange, noted, outcomeOf, stepOf}
 use Rattle.image.specs.Rounds.{strange-round}
 use Rattle.host.specs.Exports.{Exported}

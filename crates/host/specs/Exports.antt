@@ -16,7 +16,7 @@ use Rattle.panoc_core.specs.declared.panoc_cache.Answered.{Answered}
 use Rattle.panoc_core.specs.Board.{Board}
 use Rattle.panoc_core.specs.Rest.{rest}
 use Rattle.panoc_core.specs.Values.{firstPoint}
-use Rattle.panoc.specs.Calls.{Answers, asking}
+use Rattle.panoc_core.specs.Calls.{Answers, asking}
 use Rattle.image.specs.Image.{replyOf, strange}
 
 -- a kind above 4 is refused, and changes nothing; else it is the answer of the run that the numbers stand for

@@ -4,25 +4,25 @@ ghost use mathlib.Core.Path.{_≡_};
 ghost use mathlib.Core.List.{List};
 ghost use lib.Ieee.{Float};
 ghost use Rattle.panoc_core.specs.Board.{Board, Begins, before, after, runOf, gave, setU, asked};
-ghost use Rattle.panoc.specs.Calls.{Points};
+ghost use Rattle.panoc_core.specs.Calls.{Points};
 ghost use Rattle.image.specs.Image.{settingsGiven, solveOf, stepOf};
 ghost use Rattle.host.specs.Exports.{Exported, placeOf, Lies};
 use image::kinds::phase_of;
 use image::kinds::reply_of;
-use image::solve::begin;
-use image::solve::keep;
-use image::solve::note;
-use image::solve::refuse;
-use image::solve::settings_given;
-use image::solve::solve_of;
-use image::solve::tell;
-use panoc::panoc_optimizer::points_in_place;
-use panoc::panoc_optimizer::start_in_place;
+use image_puts::note;
+use image_solve::begin;
+use image_solve::keep;
+use image_solve::refuse;
+use image_solve::settings_given;
+use image_solve::solve_of;
+use image_solve::tell;
 use panoc_answers::lent::take_lent;
-use panoc_answers::wanted::waits;
-use panoc_answers::wanted::wants_lent;
 use panoc_core::panoc_cache::Phase;
 use panoc_core::refusals::refusal;
+use panoc_points::points_in_place;
+use panoc_starts::start_in_place;
+use panoc_wanted::waits;
+use panoc_wanted::wants_lent;
 
 // A run that is begun at the lent slice, or its refusal.
 #[no_mangle]

@@ -35,8 +35,8 @@ use Rattle.alm_core.specs.declared.alm_cache.AlmStepped.{AlmStepped}
 use Rattle.alm_core.specs.Rest.{LoopBoard, sized, counts}
 use Rattle.alm_core.specs.Board.{Takes, Ready, Carries, endsWithin, atPhase, stepped, given, setU, setY, setYPlus, four}
 use Rattle.alm_core.specs.Laws.{carries-asked}
-use Rattle.alm.specs.LoopCalls.{Begins, Answers, Points, runOf, gave, restOf, wantedOf, lentRight, xiHanded}
-use Rattle.alm.specs.LoopLaws.{wanted-is, inner-refusal, inner-ready, inner-n, inner-ends, inner-takes, answer-fits, answer-plan, answer-xi, answer-goes, answer-refused, refusal-wanted}
+use Rattle.alm_calls.specs.LoopCalls.{Begins, Answers, Points, runOf, gave, restOf, wantedOf, lentRight, xiHanded}
+use Rattle.alm_calls.specs.LoopLaws.{wanted-is, inner-refusal, inner-ready, inner-n, inner-ends, inner-takes, answer-fits, answer-plan, answer-xi, answer-goes, answer-refused, refusal-wanted}
 use Rattle.image.specs.Image as I
 use Rattle.image.specs.Image.{solveOf, replyOf, strange, noted}
 use Rattle.image.specs.Rounds.{strange-round}

@@ -20,7 +20,7 @@ use Rattle.alm_core.specs.declared.alm_cache.AlmAnswered.{AlmAnswered}
 use Rattle.alm_core.specs.declared.alm_cache.AlmStepped.{AlmStepped}
 use Rattle.alm_core.specs.Values.{secondPoint}
 use Rattle.alm_core.specs.Board.{given}
-use Rattle.alm.specs.LoopCalls.{Answers, restOf, wantedOf, lentRight, xiHanded, asking}
+use Rattle.alm_calls.specs.LoopCalls.{Answers, restOf, wantedOf, lentRight, xiHanded, asking}
 use Rattle.image.specs.Image as I
 use Rattle.image.specs.Image.{replyOf, solveOf, strange}
 use Rattle.alm_image.specs.AlmImage.{questionOf}

@@ -2,23 +2,23 @@
 ghost use mathlib.Core.Path.{_≡_};
 ghost use Rattle.alm_core.specs.Rest.{LoopBoard};
 ghost use Rattle.alm_core.specs.Board.{setU, setY, setYPlus};
-ghost use Rattle.alm.specs.LoopCalls.{Begins, before, after, runOf, gave};
+ghost use Rattle.alm_calls.specs.LoopCalls.{Begins, before, after, runOf, gave};
 ghost use Rattle.alm_image.specs.AlmImage.{settingsGiven, almOf, stepOf};
 ghost use Rattle.host_loop.specs.Exports.{Exported};
 use crate::answers::answer_inner;
 use crate::answers::answer_own;
 use crate::answers::fits;
-use alm::alm_optimizer::start_in_place;
 use alm_image::lent::begin;
 use alm_image::lent::keep_alm;
 use alm_image::lent::settings_given;
 use alm_image::lent::tell_alm;
 use alm_image::waiting::wants;
+use alm_starts::start_in_place;
 use image::kinds::reply_of;
-use image::solve::note;
-use image::solve::refuse;
-use panoc_answers::wanted::waits;
+use image_puts::note;
+use image_solve::refuse;
 use panoc_core::refusals::refusal;
+use panoc_wanted::waits;
 
 // A run that is begun at the lent slices, or its refusal.
 #[no_mangle]

@@ -43,7 +43,7 @@ fn no_inner() -> Run {
         akkt_tolerance: AkktTolerance::Missing,
     };
     let none = [0.0; 1];
-    let r = panoc::panoc_optimizer::start(set, &none[..0]);
+    let r = panoc_starts::start(set, &none[..0]);
     r.run
 }
 
@@ -67,7 +67,7 @@ fn no_loop() -> AlmRun {
     };
     let none = [0.0; 1];
     let also = [0.0; 1];
-    let r = alm::alm_optimizer::start(set, &none[..0], &also[..0]);
+    let r = alm_starts::start(set, &none[..0], &also[..0]);
     r.run
 }
 
