@@ -1,11 +1,11 @@
 use native.Mathlib.Omega.{arith}
 use mathlib.Core.Path.{sym, _∙_}
 use Rattle.factory.specs.FactoryLaws.{sound-n, sound-n1, sound-n2}
-use Rattle.d_psi.proofs.DPsiLaws.{gradient-points, f1-points, c-points, jf1-points, f2-points, jf2-points, over-points, wild-points}
+use Rattle.d_psi_points.proofs.PointLaws.{gradient-points, f1-points, c-points, jf1-points, f2-points, jf2-points, over-points, wild-points}
 use Rattle.factory.specs.FactoryBoard.{dPsiUTD}
 use borrow.Author.Needs.{needs}
-use Rattle.d_psi.proofs.points_in_place.Statement.{statement}
-use Rattle.d_psi.proofs.points_in_place.Tie as tie
+use Rattle.d_psi_points.proofs.points_in_place.Statement.{statement}
+use Rattle.d_psi_points.proofs.points_in_place.Tie as tie
 
 sound-requires : tie.Need-sound-requires
 sound-requires c κs = tt

@@ -1,11 +1,11 @@
 use native.Mathlib.Omega.{arith}
 use mathlib.Core.Path.{sym, _∙_}
 use Rattle.factory.specs.FactoryLaws.{sound-n, sound-n1}
-use Rattle.psi.proofs.PsiLaws.{cost-points, f1-points, c-points, f2-points, over-points, wild-points}
+use Rattle.psi_points.proofs.PointLaws.{cost-points, f1-points, c-points, f2-points, over-points, wild-points}
 use Rattle.factory.specs.FactoryBoard.{psiUT}
 use borrow.Author.Needs.{needs}
-use Rattle.psi.proofs.points_in_place.Statement.{statement}
-use Rattle.psi.proofs.points_in_place.Tie as tie
+use Rattle.psi_points.proofs.points_in_place.Statement.{statement}
+use Rattle.psi_points.proofs.points_in_place.Tie as tie
 
 sound-requires : tie.Need-sound-requires
 sound-requires c κs = tt
