@@ -1,4 +1,2 @@
 // The multiplier loop as a run that asks and answers: document 01, "One outer iteration".
-pub mod alm_answers;
 pub mod alm_optimizer;
-pub mod alm_points;

@@ -13,11 +13,11 @@ use alm_core::alm_cache::OuterIterations;
 use image::kinds::flag_of;
 use image::kinds::status_number;
 use image::kinds::status_of;
-use image::solve::keep;
-use image::solve::keep_settings;
-use image::solve::note;
-use image::solve::note_end;
-use image::solve::solve_of;
+use image_puts::note;
+use image_puts::note_end;
+use image_solve::keep;
+use image_solve::keep_settings;
+use image_solve::solve_of;
 use panoc_core::panoc_cache::InnerIterations;
 
 // The settings of a start, from its numbers.

@@ -2,14 +2,14 @@
 ghost use mathlib.Core.Path.{_≡_};
 ghost use Rattle.panoc_core.specs.Values.{kindOf};
 ghost use Rattle.alm_core.specs.Rest.{sized, counts, sound};
-ghost use Rattle.alm.specs.LoopCalls.{wantedAt, wantedOf};
+ghost use Rattle.alm_calls.specs.LoopCalls.{wantedAt, wantedOf};
 ghost use Rattle.alm_core.specs.declared.alm_cache.AlmPhase.the-variants as P;
 ghost use Rattle.alm_image.specs.AlmImage.{almOf};
 use crate::kinds::alm_phase_of;
 use alm_core::alm_cache::Alm;
 use alm_core::alm_cache::AlmPhase;
-use panoc_answers::wanted::wants_lent;
 use panoc_core::refusals::Wanted;
+use panoc_wanted::wants_lent;
 
 // Sizes as document 01 has them.
 pub fn is_sized(

@@ -22,7 +22,7 @@ use Rattle.panoc_core.specs.declared.panoc_cache.Outcome.the-variants.{Asked, E
 use Rattle.panoc_core.specs.declared.panoc_cache.Run.{Run}
 use Rattle.panoc_core.specs.Values.{settingsOf, said, firstPoint, secondPoint}
 use Rattle.panoc_core.specs.Rest.{rest}
-use Rattle.panoc.specs.Calls.{Answers, asking, Points}
+use Rattle.panoc_core.specs.Calls.{Answers, asking, Points}
 use Rattle.claims.specs.History.{Runs, Call}
 use Rattle.claims.specs.Trace.{left, Event, trace, weighed}
 use Rattle.claims.specs.Claim.{Each, Follows, ScoresRight, scores, Plan}

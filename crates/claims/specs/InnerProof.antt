@@ -26,7 +26,7 @@ use Rattle.panoc_core.specs.declared.panoc_cache.Answered.{Answered}
 use Rattle.panoc_core.specs.Values.{settingsOf, said, exitStatus}
 use Rattle.panoc_core.specs.Rest.{rest}
 use Rattle.panoc_core.specs.Board.{Board, runOf, gave, Begins}
-use Rattle.panoc.specs.Calls.{Starts, asking}
+use Rattle.panoc_core.specs.Calls.{Starts, asking}
 use Rattle.claims.specs.History.{Call, History}
 use Rattle.claims.specs.Trace.{refusal, leadsTo, weighed, left, scored}
 use Rattle.claims.specs.Claim.{Over, scores}

@@ -22,7 +22,7 @@ use Rattle.alm_core.specs.declared.alm_cache.AlmOutcome.{AlmOutcome}
 use Rattle.alm_core.specs.declared.alm_cache.AlmOutcome.the-variants.{Asked, Ended, Refused, Failed}
 use Rattle.alm_core.specs.declared.alm_cache.AlmRun.{AlmRun}
 use Rattle.alm_core.specs.Values.{settingsOf, said, firstPoint, secondPoint}
-use Rattle.alm.specs.LoopCalls.{restOf, lentRight, Answers, asking, Points}
+use Rattle.alm_calls.specs.LoopCalls.{restOf, lentRight, Answers, asking, Points}
 use Rattle.claims.specs.History.{Runs, Call}
 use Rattle.claims.specs.Trace.{left, Event, trace}
 use Rattle.claims.specs.Claim.{Each, Follows, ScoresRight, scores, tally, Plan}

@@ -26,7 +26,7 @@ use Rattle.alm_core.specs.declared.alm_cache.AlmStepped.{AlmStepped}
 use Rattle.alm_core.specs.declared.alm_cache.AlmAnswered.{AlmAnswered}
 use Rattle.alm_core.specs.Values.{settingsOf, said}
 use Rattle.alm_core.specs.Rest.{LoopBoard}
-use Rattle.alm.specs.LoopCalls.{runOf, gave, Starts, Begins, asking}
+use Rattle.alm_calls.specs.LoopCalls.{runOf, gave, Starts, Begins, asking}
 use Rattle.claims.specs.History.{Call, History}
 use Rattle.claims.specs.Trace.{refusal, leadsTo, left, Event}
 use Rattle.claims.specs.Claim.{Over, scores, tally}

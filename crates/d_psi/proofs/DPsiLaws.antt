@@ -1,5 +1,5 @@
 -- What each way through a handler of d_psi comes to, over plain values. Assumes nothing.
-use Prim.Native.Nat.{ℕ, zero, suc, _≤_}
+use Prim.Native.Nat.{ℕ, _≤_}
 use mathlib.Core.Path.{_≡_, refl, sym, ap, _∙_, subst}
 use mathlib.Core.Bool.{Bool, true, false, cond}
 use mathlib.Core.List.{List}
@@ -11,10 +11,10 @@ use lib.Ieee.{Float, binary64}
 use lib.ListN.{length}
 use Rattle.matrix_operations.specs.Firsts.{firsts}
 use Rattle.model.specs.Vectors.{minus, plusTimes, plusOver}
-use Rattle.model.specs.Process.{Kind, Answer, handed, refused, failed, ask, stop}
+use Rattle.model.specs.Process.{Kind, handed, refused, failed, ask, stop}
 use Rattle.model.specs.Process as M
 use Rattle.model.specs.Psi as S
-use Rattle.model.specs.Refusals.{answerRefusal, wanted, accept, replied, goOn, asVector, remains, lentAfter, lentAt, orRefused, startDPsi, penaltyIn, multipliersIn}
+use Rattle.model.specs.Refusals.{answerRefusal, wanted, accept, replied, goOn, asVector, remains, lentAfter, lentAt}
 use Rattle.model.specs.Refusals as R
 use Rattle.panoc_core.specs.Values.{replyOf}
 use Rattle.panoc_core.specs.declared.panoc_cache.Reply.{Reply}
@@ -26,29 +26,17 @@ use Rattle.factory.specs.declared.alm_factory.DPsiPhase.the-variants as P
 use Rattle.factory.specs.declared.alm_factory.DPsiOutcome.the-variants as O
 use Rattle.factory.specs.declared.alm_factory.DPsiState.{DPsiState}
 use Rattle.factory.specs.declared.alm_factory.DPsiStepped.{DPsiStepped}
-use Rattle.factory.specs.declared.alm_factory.DPsiRun.{DPsiRun}
-use Rattle.factory.specs.FactoryValues.{sizesOf, questionOf, dPsiSaid}
+use Rattle.factory.specs.FactoryValues.{sizesOf, dPsiSaid}
 use Rattle.factory.specs.FactoryRest.{soundSizes, dPsiResume, dPsiRest}
-use Rattle.factory.specs.FactoryCalls.{DPsiBegins, DPsiStarts, DPsiAnswers, asking, Points, Placed}
-use Rattle.factory.specs.FactoryBoard.{Sound, DPsiBoard, dPsiRunOf, dPsiGave, dPsiAt, dPsiStepped, given, DPsiComes, DPsiTakes, dPsiF2At, dPsiKindAt, dPsiKind, dPsiG, dPsiGW, dPsiD, dPsiYTW, dPsiTDW}
-use Rattle.factory.specs.FactoryLaws.{taken, ended-any, wanted-any, accepted-any, sound-n, accepted-number, accepted-yes, accepted-no, accepted-length, vector-for-none, accepted-failure, accepted-result, Started, started, points-of, points-none}
+use Rattle.factory.specs.FactoryCalls.{DPsiAnswers}
+use Rattle.factory.specs.FactoryBoard.{Sound, DPsiBoard, dPsiRunOf, dPsiGave, dPsiStepped, given, DPsiComes, DPsiTakes, dPsiF2At, dPsiKindAt, dPsiKind, dPsiG, dPsiGW, dPsiD, dPsiYTW, dPsiTDW}
+use Rattle.factory.specs.FactoryLaws.{taken, wanted-any, accepted-any, sound-n, accepted-number, accepted-yes, accepted-no, accepted-length, vector-for-none, accepted-failure, accepted-result}
+use Rattle.factory.specs.DPsiRest.{rest-at, rest-over, asks-comes}
 
 -- a product that is added from its copy w
 pub product-added : (c : Float) (n : ℕ) (v w g g′ : List Float) → length v ≡ n → firsts (length v) w ≡ v → firsts n g′ ≡ plusTimes binary64 c (firsts n g) (firsts n w)
     → firsts n g′ ≡ plusTimes binary64 c (firsts n g) v
 product-added c n v w g g′ l wv e = e ∙ ap (plusTimes binary64 c (firsts n g)) (taken n v w l wv)
-
--- ---- what is left of a run
-rest-sound : (r : DPsiRun) → Sound (r .state .sizes) → dPsiRest r ≡ dPsiResume r (r .state .phase)
-unfolding dPsiRest
-rest-sound r h = rw h
-
-rest-at : (s : DPsiState) (b : DPsiBoard) (p : DPsiPhase) → Sound (s .sizes) → s .phase ≡ p → dPsiRest (dPsiRunOf s b) ≡ dPsiResume (dPsiRunOf s b) p
-rest-at s b p h e = rest-sound (dPsiRunOf s b) h ∙ ap (λ (q : DPsiPhase). dPsiResume (dPsiRunOf s b) q) e
-
-rest-over : (r : DPsiRun) → r .state .phase ≡ P.Over → dPsiRest r ≡ stop (refused 6)
-unfolding dPsiRest dPsiResume
-rest-over r e = ended-any (soundSizes (r .state .sizes)) _ (ap (λ (q : DPsiPhase). dPsiResume r q) e)
 
 -- ---- what a run waits for
 kind-at : (s : DPsiState) (b : DPsiBoard) (p : DPsiPhase) → wanted (dPsiResume (dPsiRunOf s b) p) ≡ dPsiKindAt (s .sizes) p
@@ -125,11 +113,6 @@ module _ (s : DPsiState) (vs : ℕ) (e : answerRefusal (dPsiKind s) R.Reply.vect
   vector-not-over q = vector-for-none vs true (accepted-at s _ vs true e P.Over q)
 
 -- ---- a question, and an end
-asks-comes : (t : DPsiState) (b : DPsiBoard) (p : DPsiPhase) (q : M.PsiQuestion) (k : Kind) (continue : Answer k → M.DPsi) (r : DPsiStepped) → Sound (t .sizes)
-    → r ≡ dPsiStepped (O.Asked (questionOf q)) p t → dPsiResume (dPsiRunOf (dPsiAt p t) b) p ≡ ask q k continue → DPsiComes (t .sizes) (ask q k continue) r b
-unfolding dPsiSaid remains lentAfter given
-asks-comes t b p q k continue r h e w = rw e (record { sizes = refl; outcome = refl; process = rest-sound _ h ∙ w; result = λ us. refl })
-
 ends-comes : (t : DPsiState) (b : DPsiBoard) (r : DPsiStepped) → r ≡ dPsiStepped O.Ended P.Over t → DPsiComes (t .sizes) (stop (handed (firsts (t .sizes .n) (b .gradient)))) r b
 unfolding dPsiSaid remains lentAfter lentAt given
 ends-comes t b r e = rw e (record { sizes = refl; outcome = refl; process = rest-over _ refl; result = λ us. refl })
@@ -248,61 +231,3 @@ module _ (s : DPsiState) (a : Reply) (v us : List Float) (m : ℕ) (e : m ≡ an
         refused = λ i q. (ap (λ (t : DPsiStepped). t .outcome) w ∙ ap O.Refused (number-is b ∙ q), ap (λ (t : DPsiStepped). dPsiRunOf (t .state) b) w, refl);
         accepted = λ q. absurd (z (number-is b ∙ q));
       }
-
--- ---- start
-module _ (s : Sizes) (u xi : List Float) (b : DPsiBoard) (m : ℕ) (e : m ≡ R.psiRefusal (sizesOf s) (length u) (length xi)) where
-  pub start-runs : (c : Float) → m ≡ 0 → firsts (length u) (b .u) ≡ u → firsts (length (multipliersIn xi)) (b .y) ≡ multipliersIn xi → c ≡ penaltyIn xi
-      → DPsiStarts s u xi (dPsiGave (record { outcome = O.Asked Q.Gradient; state = record { phase = P.Gradient; sizes = s; c = c } }) b)
-  unfolding startDPsi orRefused S.dPsi dPsiResume
-  start-runs c z uv yv cv =
-      let e₀ : R.psiRefusal (sizesOf s) (length u) (length xi) ≡ 0 = sym e ∙ z in
-      let ok : Started s (length u) xi = started s (length u) xi e₀ in
-      let u≡ : firsts (s .n) (b .u) ≡ u = taken (s .n) u (b .u) (ok .places) uv in
-      let y≡ : firsts (s .n1) (b .y) ≡ multipliersIn xi = taken (s .n1) (multipliersIn xi) (b .y) (ok .multipliers) yv in
-      rw (e₀, ← cv, ← u≡, ← y≡) (begins (asks-comes (record { phase = P.Gradient; sizes = s; c = c }) b P.Gradient _ _ _ _ (ok .sound) refl refl))
-    where
-      begins : {p : M.DPsi} {r : DPsiStepped} → DPsiComes s p r b → DPsiBegins s p (dPsiGave r b)
-      begins w = record { sizes = w .sizes; outcome = w .outcome; process = w .process }
-
-  pub start-refuses : (t : DPsiState) (r : DPsiStepped) → (m ≡ 0 → ⊥) → t .phase ≡ P.Over → t .sizes ≡ s → r ≡ dPsiStepped (O.Refused m) (t .phase) t → DPsiStarts s u xi (dPsiGave r b)
-  unfolding startDPsi orRefused dPsiSaid remains
-  start-refuses t r z o i w = rw (w, ← e) (by m z)
-    where
-      by : (k : ℕ) → (k ≡ 0 → ⊥) → DPsiBegins s (orRefused k (S.dPsi binary64 (sizesOf s) u (penaltyIn xi) (multipliersIn xi))) (dPsiGave (dPsiStepped (O.Refused k) (t .phase) t) b)
-      by zero h = absurd (h refl)
-      by (suc k) h = record { sizes = i; outcome = refl; process = rest-over _ o }
-
--- ---- points
-module _ (s : DPsiState) (b : DPsiBoard) (xs xs′ ys ys′ : List Float) (r : ℕ) (ok : Sound (s .sizes)) where
-  pub gradient-points : (q : List Float) → s .phase ≡ P.Gradient → Placed (firsts (s .sizes .n) (b .u)) (firsts 0 q) xs xs′ ys ys′ r → Points (dPsiRest (dPsiRunOf s b)) xs xs′ ys ys′ r
-  unfolding dPsiResume firsts
-  gradient-points q e g = points-of _ xs xs′ ys ys′ r _ _ _ (rest-at s b P.Gradient ok e) g
-
-  pub f1-points : (q : List Float) → s .phase ≡ P.F1 → Placed (firsts (s .sizes .n) (b .u)) (firsts 0 q) xs xs′ ys ys′ r → Points (dPsiRest (dPsiRunOf s b)) xs xs′ ys ys′ r
-  unfolding dPsiResume firsts
-  f1-points q e g = points-of _ xs xs′ ys ys′ r _ _ _ (rest-at s b P.F1 ok e) g
-
-  pub c-points : (q : List Float) → s .phase ≡ P.ProjectC → Placed (firsts (s .sizes .n1) (b .t)) (firsts 0 q) xs xs′ ys ys′ r → Points (dPsiRest (dPsiRunOf s b)) xs xs′ ys ys′ r
-  unfolding dPsiResume firsts
-  c-points q e g = points-of _ xs xs′ ys ys′ r _ _ _ (rest-at s b P.ProjectC ok e) g
-
-  pub jf1-points : s .phase ≡ P.Jf1t → Placed (firsts (s .sizes .n) (b .u)) (firsts (s .sizes .n1) (b .d)) xs xs′ ys ys′ r → Points (dPsiRest (dPsiRunOf s b)) xs xs′ ys ys′ r
-  unfolding dPsiResume
-  jf1-points e g = points-of _ xs xs′ ys ys′ r _ _ _ (rest-at s b P.Jf1t ok e) g
-
-  pub f2-points : (q : List Float) → s .phase ≡ P.F2 → Placed (firsts (s .sizes .n) (b .u)) (firsts 0 q) xs xs′ ys ys′ r → Points (dPsiRest (dPsiRunOf s b)) xs xs′ ys ys′ r
-  unfolding dPsiResume firsts
-  f2-points q e g = points-of _ xs xs′ ys ys′ r _ _ _ (rest-at s b P.F2 ok e) g
-
-  pub jf2-points : s .phase ≡ P.Jf2t → Placed (firsts (s .sizes .n) (b .u)) (firsts (s .sizes .n2) (b .d)) xs xs′ ys ys′ r → Points (dPsiRest (dPsiRunOf s b)) xs xs′ ys ys′ r
-  unfolding dPsiResume
-  jf2-points e g = points-of _ xs xs′ ys ys′ r _ _ _ (rest-at s b P.Jf2t ok e) g
-
-module _ (s : DPsiState) (b : DPsiBoard) (xs ys : List Float) where
-  pub over-points : s .phase ≡ P.Over → Points (dPsiRest (dPsiRunOf s b)) xs xs ys ys 6
-  unfolding asking
-  over-points e = points-none _ xs ys (ap asking (rest-over (dPsiRunOf s b) e))
-
-  pub wild-points : soundSizes (s .sizes) ≡ false → Points (dPsiRest (dPsiRunOf s b)) xs xs ys ys 6
-  unfolding dPsiRest asking
-  wild-points h = points-none _ xs ys (ap (λ (t : Bool). asking (cond t (dPsiResume (dPsiRunOf s b) (s .phase)) (stop (refused 6)))) h)

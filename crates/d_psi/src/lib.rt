@@ -8,9 +8,9 @@ ghost use Rattle.matrix_operations.specs.Firsts.{firsts};
 ghost use Rattle.model.specs.Vectors.{plusTimes};
 ghost use Rattle.model.specs.Refusals.{answerRefusal};
 ghost use Rattle.panoc_core.specs.Values.{replyOf, kindOf};
-ghost use Rattle.factory.specs.FactoryRest.{dPsiRest};
-ghost use Rattle.factory.specs.FactoryCalls.{DPsiStarts, DPsiAnswers, Points};
-ghost use Rattle.factory.specs.FactoryBoard.{Sound, DPsiBoard, DPsiComes, DPsiTakes, dPsiRunOf, dPsiGave, dPsiStepped, dPsiKind, dPsiF2At, given, dPsiUY, dPsiUTD, dPsiG, dPsiGW, dPsiD, dPsiYTW, dPsiTDW, dPsiFive};
+ghost use Rattle.factory.specs.FactoryCalls.{DPsiAnswers};
+ghost use Rattle.factory.specs.FactoryBoard.{Sound, DPsiBoard, DPsiComes, DPsiTakes, dPsiRunOf, dPsiGave, dPsiStepped, dPsiKind, dPsiF2At, given, dPsiG, dPsiGW, dPsiD, dPsiYTW, dPsiTDW, dPsiFive};
+use d_psi_starts::refuses;
 use factory::alm_factory::DPsiAnswered;
 use factory::alm_factory::DPsiOutcome;
 use factory::alm_factory::DPsiPhase;
@@ -18,15 +18,10 @@ use factory::alm_factory::DPsiRun;
 use factory::alm_factory::DPsiState;
 use factory::alm_factory::DPsiStepped;
 use factory::alm_factory::PsiQuestion;
-use factory::alm_factory::Sizes;
-use factory::alm_factory::points::place;
 use factory::alm_factory::start::sound;
-use factory::alm_factory::start::start_refusal;
 use panoc_core::panoc_cache::Reply;
 use panoc_core::refusals::Wanted;
 use panoc_core::refusals::refusal;
-use start_tests::multipliers_in;
-use start_tests::penalty_in;
 
 // On to another phase, with what the call says.
 fn to(s: DPsiState, phase: DPsiPhase, outcome: DPsiOutcome) -> DPsiStepped
@@ -171,16 +166,6 @@ fn wants(s: DPsiState) -> Wanted
     }
 }
 
-// The run as it was, with the number of a refusal.
-fn refuses(s: DPsiState, number: u32) -> DPsiStepped
-    ensures { λ r. ⌜ r ≡ dPsiStepped (DPsiOutcome.Refused number) (s .phase) s ⌝ }
-{
-    DPsiStepped {
-        outcome: DPsiOutcome::Refused(number),
-        state: s,
-    }
-}
-
 // A vector that was asked for.
 fn on_vector(
     s: DPsiState,
@@ -302,99 +287,4 @@ pub fn answer(run: DPsiRun, a: Reply, v: &[f64], result: &mut [f64]) -> DPsiAnsw
         work,
     };
     DPsiAnswered { outcome, run }
-}
-
-// A run in place that is begun at a lent u and xi, or its refusal.
-pub fn start_in_place(
-    sizes: Sizes,
-    at: &[f64],
-    xi: &[f64],
-    u: &mut [f64; 64],
-    y: &mut [f64; 64],
-) -> DPsiStepped
-    ensures { λ r. ⌜ ((b : DPsiBoard) → DPsiStarts sizes (now (at .entry)) (now (xi .entry)) (dPsiGave r (dPsiUY (now (u .exit)) (now (y .exit)) b))) ⌝ }
-{
-    let number = start_refusal(sizes, at.len(), xi.len());
-    if number == 0 {
-        matrix_operations::take_into(at, u);
-        multipliers_in(xi, y);
-        let c = penalty_in(xi);
-        let state = DPsiState {
-            phase: DPsiPhase::Gradient,
-            sizes,
-            c,
-        };
-        DPsiStepped {
-            outcome: DPsiOutcome::Asked(PsiQuestion::Gradient),
-            state,
-        }
-    } else {
-        let state = DPsiState {
-            phase: DPsiPhase::Over,
-            sizes,
-            c: 0.0,
-        };
-        refuses(state, number)
-    }
-}
-
-// A run by value that is begun at a lent u and xi, or its refusal.
-pub fn start(sizes: Sizes, at: &[f64], xi: &[f64]) -> DPsiAnswered
-    ensures { λ r. ⌜ DPsiStarts sizes (now (at .entry)) (now (xi .entry)) r ⌝ }
-{
-    let mut u = matrix_operations::zeros();
-    let mut y = matrix_operations::zeros();
-    let gradient = matrix_operations::zeros();
-    let t = matrix_operations::zeros();
-    let d = matrix_operations::zeros();
-    let work = matrix_operations::zeros();
-    let r = start_in_place(sizes, at, xi, &mut u, &mut y);
-    let outcome = r.outcome;
-    let state = r.state;
-    let run = DPsiRun {
-        state,
-        u,
-        y,
-        gradient,
-        t,
-        d,
-        work,
-    };
-    DPsiAnswered { outcome, run }
-}
-
-// The points of the question of a run in place, into first and, for a product, second.
-pub fn points_in_place<'a>(
-    s: DPsiState,
-    first: &mut [f64],
-    second: &mut [f64],
-    u: &'a [f64; 64],
-    t: &'a [f64; 64],
-    d: &'a [f64; 64],
-) -> u32
-    ensures { λ r. ⌜ ((b : DPsiBoard) → Points (dPsiRest (dPsiRunOf s (dPsiUTD (now (u .entry)) (now (t .entry)) (now (d .entry)) b))) (now (first .entry)) (now (first .exit)) (now (second .entry)) (now (second .exit)) r) ⌝ }
-{
-    let sizes = s.sizes;
-    if sound(sizes) {
-        let phase = s.phase;
-        match phase {
-            DPsiPhase::Gradient => place(u, sizes.n, d, 0, first, second),
-            DPsiPhase::F1 => place(u, sizes.n, d, 0, first, second),
-            DPsiPhase::ProjectC => place(t, sizes.n1, d, 0, first, second),
-            DPsiPhase::Jf1t => place(u, sizes.n, d, sizes.n1, first, second),
-            DPsiPhase::F2 => place(u, sizes.n, d, 0, first, second),
-            DPsiPhase::Jf2t => place(u, sizes.n, d, sizes.n2, first, second),
-            DPsiPhase::Over => 6,
-        }
-    } else {
-        6
-    }
-}
-
-// The points of the question of a run by value.
-pub fn points(run: DPsiRun, first: &mut [f64], second: &mut [f64]) -> u32
-    ensures { λ r. ⌜ Points (dPsiRest run) (now (first .entry)) (now (first .exit)) (now (second .entry)) (now (second .exit)) r ⌝ }
-{
-    let s = run.state;
-    points_in_place(s, first, second, &run.u, &run.t, &run.d)
 }

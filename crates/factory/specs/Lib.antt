@@ -3,3 +3,5 @@ pub mod FactoryRest
 pub mod FactoryCalls
 pub mod FactoryBoard
 pub mod FactoryLaws
+pub mod PsiRest
+pub mod DPsiRest

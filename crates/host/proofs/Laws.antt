@@ -20,7 +20,7 @@ use Rattle.panoc_core.specs.Rest.{rest}
 use Rattle.panoc_core.specs.Values.{kindOf}
 use Rattle.panoc_core.specs.Board.{Board, Begins, runOf, gave, setU, waiting, wantedOf}
 use Rattle.panoc_core.specs.Wanted.{wanted-is}
-use Rattle.panoc.specs.Calls.{Answers, Points}
+use Rattle.panoc_core.specs.Calls.{Answers, Points}
 use Rattle.image.specs.Image.{solveOf, replyOf, strange, noted, stepOf}
 use Rattle.image.specs.Rounds.{strange-round}
 use Rattle.host.specs.Exports.{Exported}

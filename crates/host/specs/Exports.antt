@@ -8,7 +8,7 @@ use Rattle.panoc_core.specs.declared.panoc_cache.Outcome.the-variants.{Refused}
 use Rattle.panoc_core.specs.declared.panoc_cache.Run.{Run}
 use Rattle.panoc_core.specs.declared.panoc_cache.Answered.{Answered}
 use Rattle.panoc_core.specs.Rest.{rest}
-use Rattle.panoc.specs.Calls.{Answers}
+use Rattle.panoc_core.specs.Calls.{Answers}
 use Rattle.image.specs.Image.{replyOf, strange}
 
 -- a kind above 4 is refused, and changes nothing; else it is the answer of the run that the numbers stand for

@@ -3,12 +3,12 @@ ghost use Rattle.panoc_core.specs.Board.{before, after, runOf, gave};
 ghost use Rattle.image.specs.Image.{solveOf, stepOf};
 ghost use Rattle.host.specs.Exports.{Exported};
 use image::kinds::reply_of;
-use image::solve::note;
-use image::solve::refuse;
+use image_puts::note;
+use image_solve::refuse;
 use panoc_answers::lent::take_lent;
-use panoc_answers::wanted::waits;
-use panoc_answers::wanted::wants_lent;
 use panoc_core::refusals::refusal;
+use panoc_wanted::waits;
+use panoc_wanted::wants_lent;
 
 // An answer to the question of a run; a plan goes into the lent slice.
 #[no_mangle]

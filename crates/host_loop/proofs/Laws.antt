@@ -17,8 +17,8 @@ use Rattle.alm_core.specs.declared.alm_cache.AlmAnswered.{AlmAnswered}
 use Rattle.alm_core.specs.declared.alm_cache.AlmOutcome.the-variants.{Refused}
 use Rattle.alm_core.specs.declared.alm_cache.AlmRun.{AlmRun}
 use Rattle.alm_core.specs.Rest.{LoopBoard}
-use Rattle.alm.specs.LoopCalls.{Answers, runOf, gave, restOf, wantedOf}
-use Rattle.alm.specs.LoopLaws.{wanted-is}
+use Rattle.alm_calls.specs.LoopCalls.{Answers, runOf, gave, restOf, wantedOf}
+use Rattle.alm_calls.specs.LoopLaws.{wanted-is}
 use Rattle.image.specs.Image.{replyOf, strange, noted}
 use Rattle.image.specs.Rounds.{strange-round}
 use Rattle.alm_image.specs.AlmImage.{almOf, stepOf}

@@ -7,7 +7,7 @@ use Rattle.model.specs.Refusals.{wanted}
 use Rattle.alm_core.specs.declared.alm_cache.AlmOutcome.the-variants.{Refused}
 use Rattle.alm_core.specs.declared.alm_cache.AlmRun.{AlmRun}
 use Rattle.alm_core.specs.declared.alm_cache.AlmAnswered.{AlmAnswered}
-use Rattle.alm.specs.LoopCalls.{Answers, restOf}
+use Rattle.alm_calls.specs.LoopCalls.{Answers, restOf}
 use Rattle.image.specs.Image.{replyOf, strange}
 
 -- a kind above 4 is refused, and changes nothing; else it is the answer of the run that the numbers stand for

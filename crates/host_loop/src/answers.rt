@@ -1,5 +1,5 @@
 // An answer of any kind to a lent loop that nothing refuses.
-ghost use Rattle.alm.specs.LoopCalls.{Answers, before, after, runOf, gave};
+ghost use Rattle.alm_calls.specs.LoopCalls.{Answers, before, after, runOf, gave};
 ghost use Rattle.alm_image.specs.AlmImage.{almOf, stepOf};
 ghost use Rattle.lent_loop.specs.Lent.{Accepted};
 use lent_loop::carry;

@@ -1,15 +1,15 @@
 // The multiplier loop: an answer of any kind.
-ghost use Rattle.alm.specs.LoopCalls.{before, after, runOf, gave};
+ghost use Rattle.alm_calls.specs.LoopCalls.{before, after, runOf, gave};
 ghost use Rattle.alm_image.specs.AlmImage.{almOf, stepOf};
 ghost use Rattle.host_loop.specs.Exports.{Exported};
 use crate::answers::answer_accepted;
 use alm_image::waiting::wants;
 use image::kinds::reply_of;
-use image::solve::note;
-use image::solve::refuse;
+use image_puts::note;
+use image_solve::refuse;
 use lent_loop::fits;
-use panoc_answers::wanted::waits;
 use panoc_core::refusals::refusal;
+use panoc_wanted::waits;
 
 // An answer to the question of a run; a plan and the multipliers go into the lent slices.
 #[no_mangle]

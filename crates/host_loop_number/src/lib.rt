@@ -1,11 +1,11 @@
 // A number for the question of a loop, for C: the quick way for COST, with the vectors that its answers need.
 ghost use mathlib.Core.List.{[]};
 ghost use Rattle.alm_core.specs.Rest.{LoopBoard};
-ghost use Rattle.alm.specs.LoopCalls.{Answers, runOf, gave};
+ghost use Rattle.alm_calls.specs.LoopCalls.{Answers, runOf, gave};
 ghost use Rattle.alm_image.specs.AlmImage.{almOf, stepOf};
 ghost use Rattle.host_loop_number.specs.Eight.{eight};
 use alm_image::waiting::wants;
-use image::solve::note;
+use image_puts::note;
 use lent_loop::carry;
 use lent_loop::fits;
 use lent_loop::own_number;

@@ -16,16 +16,16 @@ use Rattle.panoc_core.specs.declared.panoc_cache.Phase.the-variants as IP
 use Rattle.panoc_core.specs.Board as InnerBoard
 use Rattle.panoc_core.specs.Board.{waiting}
 use Rattle.panoc_core.specs.Wanted as InnerWanted
-use Rattle.panoc.specs.Points.{empty, waiting-kind}
+use Rattle.panoc_points.specs.Points.{empty, waiting-kind}
 use Rattle.alm_core.specs.declared.alm_cache.Alm.{Alm}
 use Rattle.alm_core.specs.declared.alm_cache.AlmPhase.{AlmPhase}
 use Rattle.alm_core.specs.declared.alm_cache.AlmPhase.the-variants as P
 use Rattle.alm_core.specs.Rest.{LoopBoard}
 use Rattle.alm_core.specs.Values.{firstPoint}
-use Rattle.alm.specs.LoopCalls.{wantedOf, runOf, restOf, asking}
-use Rattle.alm.specs.LoopLaws.{wanted-is, wanted-phase}
-use Rattle.alm.specs.LoopPoints.{firstPlaces, firstAt}
-use Rattle.alm.specs.LoopPointLaws.{LoopFacts, waits-facts}
+use Rattle.alm_calls.specs.LoopCalls.{wantedOf, runOf, restOf, asking}
+use Rattle.alm_calls.specs.LoopLaws.{wanted-is, wanted-phase}
+use Rattle.alm_points.specs.LoopPoints.{firstPlaces, firstAt}
+use Rattle.alm_points.specs.LoopPointLaws.{LoopFacts, waits-facts}
 use Rattle.host_points.specs.Places as Inner
 use Rattle.host_loop_points.specs.Exports.{holders, placeOf, Lies}
 

@@ -19,9 +19,9 @@ use Rattle.alm_core.specs.declared.alm_cache.AlmPhase.the-variants as P
 use Rattle.alm_core.specs.Rest.{LoopBoard}
 use Rattle.alm_core.specs.Board.{Sound}
 use Rattle.alm_core.specs.Values.{firstPoint, secondPoint}
-use Rattle.alm.specs.LoopCalls.{wantedOf, runOf, pointsRefusal, xiGiven, Points}
-use Rattle.alm.specs.LoopPoints.{carriesXi, firstPlaces, secondPlaces, firstAt, secondAt}
-use Rattle.alm.specs.LoopPointLaws.{points-over, points-second, points-given, places-with, places-without, room-with, room-without, second-with, second-without, sound-wide, sound-inner, xi-room}
+use Rattle.alm_calls.specs.LoopCalls.{wantedOf, runOf, pointsRefusal, xiGiven, Points}
+use Rattle.alm_points.specs.LoopPoints.{carriesXi, firstPlaces, secondPlaces, firstAt, secondAt}
+use Rattle.alm_points.specs.LoopPointLaws.{points-over, points-second, points-given, places-with, places-without, room-with, room-without, second-with, second-without, sound-wide, sound-inner, xi-room}
 use Rattle.image.specs.Image as I
 use Rattle.alm_image.specs.AlmImage.{phaseOf, almOf}
 use Rattle.host_loop_points.specs.Exports.{Second, secondRefusal}

@@ -16,7 +16,7 @@ use Rattle.alm_core.specs.declared.alm_cache.AlmPhase.the-variants as P
 use Rattle.alm_core.specs.declared.alm_cache.AlmRun.{AlmRun}
 use Rattle.alm_core.specs.Rest.{LoopBoard}
 use Rattle.alm_core.specs.Values.{firstPoint, secondPoint}
-use Rattle.alm.specs.LoopCalls.{runOf, restOf, asking}
+use Rattle.alm_calls.specs.LoopCalls.{runOf, restOf, asking}
 use Rattle.host_points.specs.Places as Inner
 
 -- the second point alone: 6 where the run has ended, 8 where the slice is not as long as that point, else 0

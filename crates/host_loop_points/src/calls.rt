@@ -4,23 +4,23 @@ ghost use mathlib.Core.List.{List};
 ghost use lib.Ieee.{Float};
 ghost use Rattle.alm_core.specs.Rest.{LoopBoard};
 ghost use Rattle.alm_core.specs.Board.{setU, setY};
-ghost use Rattle.alm.specs.LoopCalls.{Points, runOf};
-ghost use Rattle.alm.specs.LoopPoints.{asked};
+ghost use Rattle.alm_calls.specs.LoopCalls.{Points, runOf};
+ghost use Rattle.alm_points.specs.LoopPoints.{asked};
 ghost use Rattle.alm_core.specs.declared.alm_cache.AlmPhase.the-variants as P;
 ghost use Rattle.alm_image.specs.AlmImage.{almOf};
 ghost use Rattle.host_loop_points.specs.Exports.{Second, placeOf, Lies};
 ghost use mathlib.Core.Path.{_≡_};
 use crate::seconds::fill_second;
 use crate::seconds::places;
-use alm::alm_points::points_in_place;
 use alm_core::alm_cache::AlmPhase;
 use alm_image::kinds::alm_phase_of;
 use alm_image::lent::alm_of;
 use alm_image::waiting::wants;
+use alm_points::points_in_place;
 use host_points::place_of;
 use image::kinds::phase_of;
-use panoc_answers::wanted::waits;
 use panoc_core::panoc_cache::Phase;
+use panoc_wanted::waits;
 
 // The points of the question of a run: 0, or 6 where it has ended and 8 where a slice is not as long as its point.
 #[no_mangle]

@@ -3,14 +3,14 @@ ghost use mathlib.Core.Path.{_≡_};
 ghost use Prim.Native.Nat.{_≤_};
 ghost use lib.ListN.{length, getD};
 ghost use Rattle.alm_core.specs.Board.{Sound};
-ghost use Rattle.alm.specs.LoopPoints.{secondPlaces, secondAt};
+ghost use Rattle.alm_points.specs.LoopPoints.{secondPlaces, secondAt};
 ghost use Rattle.alm_image.specs.AlmImage.{phaseOf, almOf};
-use alm::alm_optimizer::fill_xi;
-use alm::alm_points::carries_xi_at;
-use alm::alm_points::xi_places;
+use alm_calls::lent::fill_xi;
+use alm_points::carries_xi_at;
+use alm_points::xi_places;
 use image::kinds::phase_of;
 use matrix_operations::give;
-use panoc::panoc_optimizer::second_places_at;
+use panoc_points::second_places_at;
 
 // How many places the second point of the question has.
 pub fn places(

@@ -7,7 +7,7 @@ use Rattle.alm_core.specs.declared.alm_cache.AlmSettings.{AlmSettings}
 use Rattle.alm_core.specs.declared.alm_cache.AlmStepped.{AlmStepped}
 use Rattle.alm_core.specs.Rest.{LoopBoard}
 use Rattle.alm_core.specs.Board.{setU, setY, setYPlus}
-use Rattle.alm.specs.LoopCalls.{Begins}
+use Rattle.alm_calls.specs.LoopCalls.{Begins}
 
 module _ (s x : AlmSettings) (v xi u y z : List Float) (r : AlmStepped) (g : (b : LoopBoard) → Begins s v xi r (setU u (setY y (setYPlus z b)))) (e : s ≡ x) where
   pub begun-set : (q : AlmSettings) → q ≡ x → q ≡ r .alm .set

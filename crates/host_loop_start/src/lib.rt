@@ -1,13 +1,13 @@
 // The start of a multiplier loop for C.
 ghost use Rattle.alm_core.specs.Rest.{LoopBoard};
 ghost use Rattle.alm_core.specs.Board.{setU, setY, setYPlus};
-ghost use Rattle.alm.specs.LoopCalls.{Begins};
+ghost use Rattle.alm_calls.specs.LoopCalls.{Begins};
 ghost use Rattle.alm_image.specs.AlmImage.{settingsGiven, stepOf};
-use alm::alm_optimizer::start_in_place;
 use alm_image::lent::begin;
 use alm_image::lent::keep_alm;
 use alm_image::lent::settings_given;
 use alm_image::lent::tell_alm;
+use alm_starts::start_in_place;
 
 // A run that is begun at the lent slices, or its refusal.
 #[no_mangle]

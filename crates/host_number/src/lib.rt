@@ -1,13 +1,13 @@
 // A number for the question of an inner solve, for C: the quick way for COST, with the vectors that its answers need.
 ghost use mathlib.Core.List.{[]};
 ghost use Rattle.panoc_core.specs.Board.{Board, runOf, gave, five, setBest};
-ghost use Rattle.panoc.specs.Calls.{Answers};
+ghost use Rattle.panoc_core.specs.Calls.{Answers};
 ghost use Rattle.image.specs.Image.{solveOf, stepOf};
-use image::solve::note;
+use image_puts::note;
 use panoc_answers::lent::on_number;
-use panoc_answers::wanted::wants_lent;
 use panoc_core::panoc_cache::Reply;
 use panoc_core::refusals::refusal;
+use panoc_wanted::wants_lent;
 
 // The number x for the question of a run; a plan goes into the lent slice.
 #[no_mangle]

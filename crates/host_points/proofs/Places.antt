@@ -16,7 +16,7 @@ use Rattle.panoc_core.specs.declared.panoc_cache.Solve.{Solve}
 use Rattle.panoc_core.specs.Board.{Board, runOf}
 use Rattle.panoc_core.specs.Rest.{rest, resume, sound}
 use Rattle.panoc_core.specs.Values.{firstPoint}
-use Rattle.panoc.specs.Calls.{asking}
+use Rattle.panoc_core.specs.Calls.{asking}
 use Rattle.host_points.specs.Places.{holders, placeOf, Lies}
 
 abbrev held : Option Question → List Float → Type 0

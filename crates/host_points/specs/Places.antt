@@ -13,7 +13,7 @@ use Rattle.panoc_core.specs.declared.panoc_cache.Run.{Run}
 use Rattle.panoc_core.specs.Board.{Board}
 use Rattle.panoc_core.specs.Rest.{rest}
 use Rattle.panoc_core.specs.Values.{firstPoint}
-use Rattle.panoc.specs.Calls.{asking}
+use Rattle.panoc_core.specs.Calls.{asking}
 
 -- the vectors that hold first points, by their numbers
 abbrev pub holders : Board → List (List Float)

@@ -4,13 +4,13 @@ ghost use mathlib.Core.Path.{_≡_};
 ghost use mathlib.Core.List.{List};
 ghost use lib.Ieee.{Float};
 ghost use Rattle.panoc_core.specs.Board.{Board, runOf, asked};
-ghost use Rattle.panoc.specs.Calls.{Points};
+ghost use Rattle.panoc_core.specs.Calls.{Points};
 ghost use Rattle.image.specs.Image.{solveOf};
 ghost use Rattle.host_points.specs.Places.{placeOf, Lies};
 use image::kinds::phase_of;
-use image::solve::solve_of;
-use panoc::panoc_optimizer::points_in_place;
+use image_solve::solve_of;
 use panoc_core::panoc_cache::Phase;
+use panoc_points::points_in_place;
 
 // The points of the question of a run: 0, or 6 where it has ended and 8 where a slice is not as long as its point.
 #[no_mangle]

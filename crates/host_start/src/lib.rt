@@ -1,11 +1,11 @@
 // The start of an inner solve for C.
 ghost use Rattle.panoc_core.specs.Board.{Board, Begins, setU};
 ghost use Rattle.image.specs.Image.{settingsGiven, stepOf};
-use image::solve::begin;
-use image::solve::keep;
-use image::solve::settings_given;
-use image::solve::tell;
-use panoc::panoc_optimizer::start_in_place;
+use image_solve::begin;
+use image_solve::keep;
+use image_solve::settings_given;
+use image_solve::tell;
+use panoc_starts::start_in_place;
 
 // A run that is begun at the lent slice, or its refusal.
 #[no_mangle]

@@ -1,12 +1,12 @@
 // A vector for the question of an inner solve, for C: the quick way for GRADIENT, PROJECT and DIRECTION.
 ghost use Rattle.panoc_core.specs.Board.{before, after, runOf, gave};
-ghost use Rattle.panoc.specs.Calls.{Answers};
+ghost use Rattle.panoc_core.specs.Calls.{Answers};
 ghost use Rattle.image.specs.Image.{solveOf, stepOf};
-use image::solve::note;
+use image_puts::note;
 use panoc_answers::lent::on_vector;
-use panoc_answers::wanted::wants_lent;
 use panoc_core::panoc_cache::Reply;
 use panoc_core::refusals::refusal;
+use panoc_wanted::wants_lent;
 
 // The vector v for the question of a run; a plan goes into the lent slice.
 #[no_mangle]

@@ -1,4 +1,2 @@
-// The numbers of a run that lies in lent arrays: what they stand for, and how they are stored.
+// The kinds of a run that lies in lent arrays, as numbers.
 pub mod kinds;
-pub mod puts;
-pub mod solve;

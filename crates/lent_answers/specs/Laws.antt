@@ -13,8 +13,8 @@ use Rattle.panoc_core.specs.declared.panoc_cache.Solve.{Solve}
 use Rattle.panoc_core.specs.declared.refusals.Wanted.{Wanted}
 use Rattle.panoc_core.specs.Values.{kindOf, replyOf}
 use Rattle.panoc_core.specs.Board.{Board, Takes, runOf, gave, given, wantedOf}
-use Rattle.panoc.specs.Calls.{Answers}
-use Rattle.panoc.proofs.CallLaws.{answer-goes, answer-refused, answer-fits, answer-length, refusal-wanted}
+use Rattle.panoc_core.specs.Calls.{Answers}
+use Rattle.panoc_answers.proofs.AnswerLaws.{answer-goes, answer-refused, answer-fits, answer-length, refusal-wanted}
 use Rattle.image.specs.Image.{solveOf, noted, outcomeOf, stepOf}
 
 -- the answer a, with the vector v beside it, which the table refuses by m, 0 for none

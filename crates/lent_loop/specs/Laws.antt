@@ -30,8 +30,8 @@ use Rattle.alm_core.specs.declared.alm_cache.AlmStepped.{AlmStepped}
 use Rattle.alm_core.specs.Rest.{LoopBoard, sized, counts}
 use Rattle.alm_core.specs.Board.{Takes, Ready, Carries, endsWithin, atPhase, stepped, given, four}
 use Rattle.alm_core.specs.Laws.{carries-asked}
-use Rattle.alm.specs.LoopCalls.{Answers, runOf, gave, wantedOf, lentRight, xiHanded}
-use Rattle.alm.specs.LoopLaws.{inner-refusal, inner-ready, inner-n, inner-ends, inner-takes, answer-fits, answer-plan, answer-xi, answer-goes, answer-refused, refusal-wanted}
+use Rattle.alm_calls.specs.LoopCalls.{Answers, runOf, gave, wantedOf, lentRight, xiHanded}
+use Rattle.alm_calls.specs.LoopLaws.{inner-refusal, inner-ready, inner-n, inner-ends, inner-takes, answer-fits, answer-plan, answer-xi, answer-goes, answer-refused, refusal-wanted}
 use Rattle.image.specs.Image as I
 use Rattle.image.specs.Image.{solveOf, noted}
 use Rattle.alm_image.specs.AlmImage.{phaseOf, questionOf, settingsOf, almOf, stepOf}

@@ -16,7 +16,7 @@ use Rattle.alm_core.specs.declared.alm_cache.AlmQuestion.the-variants as Q
 use Rattle.alm_core.specs.declared.alm_cache.AlmStepped.{AlmStepped}
 use Rattle.alm_core.specs.Rest.{LoopBoard}
 use Rattle.alm_core.specs.Board.{Carries, given, four}
-use Rattle.alm.specs.LoopCalls.{wantedOf, lentRight, xiHanded}
+use Rattle.alm_calls.specs.LoopCalls.{wantedOf, lentRight, xiHanded}
 use Rattle.image.specs.Image as I
 use Rattle.image.specs.Image.{solveOf}
 use Rattle.alm_image.specs.AlmImage.{questionOf}

@@ -2,14 +2,14 @@
 use crate::kiln;
 use crate::penalty;
 use alm::alm_optimizer::answer;
-use alm::alm_optimizer::start;
-use alm::alm_points::points;
 use alm_core::alm_cache::AlmAnswered;
 use alm_core::alm_cache::AlmOptimizerStatus;
 use alm_core::alm_cache::AlmOutcome;
 use alm_core::alm_cache::AlmQuestion;
 use alm_core::alm_cache::AlmRun;
 use alm_core::alm_cache::AlmSettings;
+use alm_points::points;
+use alm_starts::start;
 use panoc_core::panoc_cache::Question;
 use panoc_core::panoc_cache::Reply;
 

@@ -1,35 +1,18 @@
-// Which handler takes an answer, and what a run waits for: over lent numbers, and by value.
+// Which handler takes an answer: over lent numbers, and by value.
 ghost use mathlib.Core.Path.{_≡_};
 ghost use mathlib.Core.Bool.{true};
 ghost use lib.ListN.{length};
 ghost use Rattle.model.specs.Refusals.{answerRefusal};
-ghost use Rattle.panoc_core.specs.Values.{replyOf, kindOf};
+ghost use Rattle.panoc_core.specs.Values.{replyOf};
 ghost use Rattle.panoc_core.specs.Board.{Takes, wantedOf, before, after};
 
 pub mod lent;
-pub mod wanted;
 
-use crate::wanted::in_range;
-use crate::wanted::wants_at;
-use image::solve::step_of;
-use image::solve::store;
+use image_solve::step_of;
+use image_solve::store;
 use panoc_core::panoc_cache::Reply;
 use panoc_core::panoc_cache::Solve;
 use panoc_core::panoc_cache::Stepped;
-use panoc_core::refusals::Wanted;
-
-// What the run waits for.
-pub fn wants(s: Solve) -> Wanted
-    ensures { λ r. ⌜ kindOf r ≡ wantedOf s ⌝ }
-{
-    let phase = s.phase;
-    let done = s.iterations;
-    if in_range(s.set.n, s.set.max_iter, s.left, done.0) {
-        wants_at(s.set.n, phase)
-    } else {
-        Wanted::Nothing
-    }
-}
 
 // An answer that nothing refuses. A plan stays in the best half step.
 pub fn take(

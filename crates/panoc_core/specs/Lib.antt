@@ -3,3 +3,4 @@ pub mod Rest
 pub mod Board
 pub mod Laws
 pub mod Wanted
+pub mod Calls

@@ -1,5 +1,5 @@
 -- What each way through a handler of psi comes to, over plain values. Assumes nothing.
-use Prim.Native.Nat.{ℕ, zero, suc}
+use Prim.Native.Nat.{ℕ}
 use mathlib.Core.Path.{_≡_, refl, sym, ap, _∙_, subst}
 use mathlib.Core.Bool.{Bool, true, false, cond}
 use mathlib.Core.List.{List}
@@ -14,10 +14,10 @@ use Rattle.matrix_operations.specs.Firsts.{firsts}
 use Rattle.model.specs.Constants.{one, two}
 use Rattle.model.specs.Literals.{one-bits}
 use Rattle.model.specs.Vectors.{minus, plusOver}
-use Rattle.model.specs.Process.{Kind, Answer, handed, refused, failed, ask, stop}
+use Rattle.model.specs.Process.{Kind, handed, refused, failed, ask, stop}
 use Rattle.model.specs.Process as M
 use Rattle.model.specs.Psi as S
-use Rattle.model.specs.Refusals.{answerRefusal, wanted, accept, replied, goOn, asNumber, asVector, remains, orRefused, startPsi, penaltyIn, multipliersIn}
+use Rattle.model.specs.Refusals.{answerRefusal, wanted, accept, replied, goOn, asNumber, asVector, remains}
 use Rattle.model.specs.Refusals as R
 use Rattle.panoc_core.specs.Values.{replyOf}
 use Rattle.panoc_core.specs.declared.panoc_cache.Reply.{Reply}
@@ -29,28 +29,16 @@ use Rattle.factory.specs.declared.alm_factory.PsiPhase.the-variants as P
 use Rattle.factory.specs.declared.alm_factory.PsiOutcome.the-variants as O
 use Rattle.factory.specs.declared.alm_factory.PsiState.{PsiState}
 use Rattle.factory.specs.declared.alm_factory.PsiStepped.{PsiStepped}
-use Rattle.factory.specs.declared.alm_factory.PsiRun.{PsiRun}
-use Rattle.factory.specs.FactoryValues.{sizesOf, questionOf, psiSaid}
+use Rattle.factory.specs.FactoryValues.{psiSaid}
 use Rattle.factory.specs.FactoryRest.{soundSizes, psiResume, psiRest}
-use Rattle.factory.specs.FactoryCalls.{PsiReaches, PsiStarts, PsiAnswers, asking, Points, Placed}
-use Rattle.factory.specs.FactoryBoard.{Sound, PsiBoard, psiRunOf, psiGave, psiAt, withValue, psiStepped, PsiTakes, psiF2At, psiKindAt, psiKind, psiW, psiTW}
-use Rattle.factory.specs.FactoryLaws.{taken, ended-any, wanted-any, accepted-any, accepted-number, accepted-yes, accepted-no, accepted-length, vector-for-number, vector-for-none, accepted-failure, Started, started, points-of, points-none}
+use Rattle.factory.specs.FactoryCalls.{PsiReaches, PsiAnswers}
+use Rattle.factory.specs.FactoryBoard.{Sound, PsiBoard, psiRunOf, psiGave, withValue, psiStepped, PsiTakes, psiF2At, psiKindAt, psiKind, psiW, psiTW}
+use Rattle.factory.specs.FactoryLaws.{taken, wanted-any, accepted-any, accepted-number, accepted-yes, accepted-no, accepted-length, vector-for-number, vector-for-none, accepted-failure}
+use Rattle.factory.specs.PsiRest.{rest-at, rest-over, asks-comes}
 
 -- the divisor, at the code's 1
 pub divisor-is : (c m : Float) → m ≡ larger c (ofBits binary64 4607182418800017408) → m ≡ larger c (one binary64)
 divisor-is c m e = e ∙ ap (larger c) one-bits
-
--- ---- what is left of a run
-rest-sound : (r : PsiRun) → Sound (r .state .sizes) → psiRest r ≡ psiResume r (r .state .phase)
-unfolding psiRest
-rest-sound r h = rw h
-
-rest-at : (s : PsiState) (b : PsiBoard) (p : PsiPhase) → Sound (s .sizes) → s .phase ≡ p → psiRest (psiRunOf s b) ≡ psiResume (psiRunOf s b) p
-rest-at s b p h e = rest-sound (psiRunOf s b) h ∙ ap (λ (q : PsiPhase). psiResume (psiRunOf s b) q) e
-
-rest-over : (r : PsiRun) → r .state .phase ≡ P.Over → psiRest r ≡ stop (refused 6)
-unfolding psiRest psiResume
-rest-over r e = ended-any (soundSizes (r .state .sizes)) _ (ap (λ (q : PsiPhase). psiResume r q) e)
 
 -- ---- what a run waits for
 kind-at : (s : PsiState) (b : PsiBoard) (p : PsiPhase) → wanted (psiResume (psiRunOf s b) p) ≡ psiKindAt (s .sizes) p
@@ -130,11 +118,6 @@ module _ (s : PsiState) (vs : ℕ) (e : answerRefusal (psiKind s) R.Reply.vector
   vector-not-over q = vector-for-none vs true (accepted-at s _ vs true e P.Over q)
 
 -- ---- a question, and an end
-asks-comes : (t : PsiState) (b : PsiBoard) (p : PsiPhase) (q : M.PsiQuestion) (k : Kind) (continue : Answer k → M.Psi) (r : PsiStepped) → Sound (t .sizes)
-    → r ≡ psiStepped (O.Asked (questionOf q)) p t → psiResume (psiRunOf (psiAt p t) b) p ≡ ask q k continue → PsiReaches (t .sizes) (ask q k continue) (psiGave r b)
-unfolding psiSaid remains
-asks-comes t b p q k continue r h e w = rw e (record { sizes = refl; outcome = refl; process = rest-sound _ h ∙ w })
-
 ends-comes : (t : PsiState) (b : PsiBoard) (x : Float) (r : PsiStepped) → r ≡ psiStepped (O.Ended x) P.Over t → PsiReaches (t .sizes) (stop (handed x)) (psiGave r b)
 unfolding psiSaid remains
 ends-comes t b x r e = rw e (record { sizes = refl; outcome = refl; process = rest-over _ refl })
@@ -228,50 +211,3 @@ module _ (s : PsiState) (b : PsiBoard) (a : Reply) (v : List Float) (r : PsiStep
         refused = λ i q. (ap (λ (t : PsiStepped). t .outcome) w ∙ ap O.Refused (k ∙ q), ap (λ (t : PsiStepped). psiRunOf (t .state) b) w);
         accepted = λ q. absurd (z (k ∙ q));
       }
-
--- ---- start
-module _ (s : Sizes) (u xi : List Float) (b : PsiBoard) (m : ℕ) (e : m ≡ R.psiRefusal (sizesOf s) (length u) (length xi)) where
-  pub start-runs : (c x : Float) → m ≡ 0 → firsts (length u) (b .u) ≡ u → firsts (length (multipliersIn xi)) (b .y) ≡ multipliersIn xi → c ≡ penaltyIn xi
-      → PsiStarts s u xi (psiGave (record { outcome = O.Asked Q.Cost; state = record { phase = P.Cost; sizes = s; c = c; value = x } }) b)
-  unfolding startPsi orRefused S.psi psiResume
-  start-runs c x z uv yv cv =
-      let e₀ : R.psiRefusal (sizesOf s) (length u) (length xi) ≡ 0 = sym e ∙ z in
-      let ok : Started s (length u) xi = started s (length u) xi e₀ in
-      let u≡ : firsts (s .n) (b .u) ≡ u = taken (s .n) u (b .u) (ok .places) uv in
-      let y≡ : firsts (s .n1) (b .y) ≡ multipliersIn xi = taken (s .n1) (multipliersIn xi) (b .y) (ok .multipliers) yv in
-      rw (e₀, ← cv, ← u≡, ← y≡) (asks-comes (record { phase = P.Cost; sizes = s; c = c; value = x }) b P.Cost _ _ _ _ (ok .sound) refl refl)
-
-  pub start-refuses : (t : PsiState) (r : PsiStepped) → (m ≡ 0 → ⊥) → t .phase ≡ P.Over → t .sizes ≡ s → r ≡ psiStepped (O.Refused m) (t .phase) t → PsiStarts s u xi (psiGave r b)
-  unfolding startPsi orRefused psiSaid remains
-  start-refuses t r z o i w = rw (w, ← e) (by m z)
-    where
-      by : (k : ℕ) → (k ≡ 0 → ⊥) → PsiReaches s (orRefused k (S.psi binary64 (sizesOf s) u (penaltyIn xi) (multipliersIn xi))) (psiGave (psiStepped (O.Refused k) (t .phase) t) b)
-      by zero h = absurd (h refl)
-      by (suc k) h = record { sizes = i; outcome = refl; process = rest-over _ o }
-
--- ---- points
-module _ (s : PsiState) (b : PsiBoard) (xs xs′ ys ys′ : List Float) (r : ℕ) (ok : Sound (s .sizes)) where
-  pub cost-points : (q : List Float) → s .phase ≡ P.Cost → Placed (firsts (s .sizes .n) (b .u)) (firsts 0 q) xs xs′ ys ys′ r → Points (psiRest (psiRunOf s b)) xs xs′ ys ys′ r
-  unfolding psiResume firsts
-  cost-points q e g = points-of _ xs xs′ ys ys′ r _ _ _ (rest-at s b P.Cost ok e) g
-
-  pub f1-points : (q : List Float) → s .phase ≡ P.F1 → Placed (firsts (s .sizes .n) (b .u)) (firsts 0 q) xs xs′ ys ys′ r → Points (psiRest (psiRunOf s b)) xs xs′ ys ys′ r
-  unfolding psiResume firsts
-  f1-points q e g = points-of _ xs xs′ ys ys′ r _ _ _ (rest-at s b P.F1 ok e) g
-
-  pub c-points : (q : List Float) → s .phase ≡ P.ProjectC → Placed (firsts (s .sizes .n1) (b .t)) (firsts 0 q) xs xs′ ys ys′ r → Points (psiRest (psiRunOf s b)) xs xs′ ys ys′ r
-  unfolding psiResume firsts
-  c-points q e g = points-of _ xs xs′ ys ys′ r _ _ _ (rest-at s b P.ProjectC ok e) g
-
-  pub f2-points : (q : List Float) → s .phase ≡ P.F2 → Placed (firsts (s .sizes .n) (b .u)) (firsts 0 q) xs xs′ ys ys′ r → Points (psiRest (psiRunOf s b)) xs xs′ ys ys′ r
-  unfolding psiResume firsts
-  f2-points q e g = points-of _ xs xs′ ys ys′ r _ _ _ (rest-at s b P.F2 ok e) g
-
-module _ (s : PsiState) (b : PsiBoard) (xs ys : List Float) where
-  pub over-points : s .phase ≡ P.Over → Points (psiRest (psiRunOf s b)) xs xs ys ys 6
-  unfolding asking
-  over-points e = points-none _ xs ys (ap asking (rest-over (psiRunOf s b) e))
-
-  pub wild-points : soundSizes (s .sizes) ≡ false → Points (psiRest (psiRunOf s b)) xs xs ys ys 6
-  unfolding psiRest asking
-  wild-points h = points-none _ xs ys (ap (λ (t : Bool). asking (cond t (psiResume (psiRunOf s b) (s .phase)) (stop (refused 6)))) h)

@@ -8,9 +8,8 @@ ghost use Rattle.ieee.specs.Numbers.{larger};
 ghost use Rattle.model.specs.Constants.{one, two};
 ghost use Rattle.model.specs.Refusals.{answerRefusal};
 ghost use Rattle.panoc_core.specs.Values.{replyOf, kindOf};
-ghost use Rattle.factory.specs.FactoryRest.{psiRest};
-ghost use Rattle.factory.specs.FactoryCalls.{PsiReaches, PsiStarts, PsiAnswers, Points};
-ghost use Rattle.factory.specs.FactoryBoard.{Sound, PsiBoard, PsiTakes, psiRunOf, psiGave, psiStepped, psiKind, psiF2At, psiUY, psiUT, psiW, psiTW, psiYTW};
+ghost use Rattle.factory.specs.FactoryCalls.{PsiReaches, PsiAnswers};
+ghost use Rattle.factory.specs.FactoryBoard.{Sound, PsiBoard, PsiTakes, psiRunOf, psiGave, psiStepped, psiKind, psiF2At, psiW, psiTW, psiYTW};
 use factory::alm_factory::PsiAnswered;
 use factory::alm_factory::PsiOutcome;
 use factory::alm_factory::PsiPhase;
@@ -18,15 +17,11 @@ use factory::alm_factory::PsiQuestion;
 use factory::alm_factory::PsiRun;
 use factory::alm_factory::PsiState;
 use factory::alm_factory::PsiStepped;
-use factory::alm_factory::Sizes;
-use factory::alm_factory::points::place;
 use factory::alm_factory::start::sound;
-use factory::alm_factory::start::start_refusal;
 use panoc_core::panoc_cache::Reply;
 use panoc_core::refusals::Wanted;
 use panoc_core::refusals::refusal;
-use start_tests::multipliers_in;
-use start_tests::penalty_in;
+use psi_starts::refuses;
 
 // On to another phase, with what the call says.
 fn to(s: PsiState, phase: PsiPhase, outcome: PsiOutcome) -> PsiStepped
@@ -149,16 +144,6 @@ fn wants(s: PsiState) -> Wanted
     }
 }
 
-// The run as it was, with the number of a refusal.
-fn refuses(s: PsiState, number: u32) -> PsiStepped
-    ensures { λ r. ⌜ r ≡ psiStepped (PsiOutcome.Refused number) (s .phase) s ⌝ }
-{
-    PsiStepped {
-        outcome: PsiOutcome::Refused(number),
-        state: s,
-    }
-}
-
 // A vector that was asked for.
 fn on_vector(
     s: PsiState,
@@ -240,94 +225,4 @@ pub fn answer(run: PsiRun, a: Reply, v: &[f64]) -> PsiAnswered
         work,
     };
     PsiAnswered { outcome, run }
-}
-
-// A run in place that is begun at a lent u and xi, or its refusal.
-pub fn start_in_place(
-    sizes: Sizes,
-    at: &[f64],
-    xi: &[f64],
-    u: &mut [f64; 64],
-    y: &mut [f64; 64],
-) -> PsiStepped
-    ensures { λ r. ⌜ ((b : PsiBoard) → PsiStarts sizes (now (at .entry)) (now (xi .entry)) (psiGave r (psiUY (now (u .exit)) (now (y .exit)) b))) ⌝ }
-{
-    let number = start_refusal(sizes, at.len(), xi.len());
-    if number == 0 {
-        matrix_operations::take_into(at, u);
-        multipliers_in(xi, y);
-        let c = penalty_in(xi);
-        let state = PsiState {
-            phase: PsiPhase::Cost,
-            sizes,
-            c,
-            value: 0.0,
-        };
-        PsiStepped {
-            outcome: PsiOutcome::Asked(PsiQuestion::Cost),
-            state,
-        }
-    } else {
-        let state = PsiState {
-            phase: PsiPhase::Over,
-            sizes,
-            c: 0.0,
-            value: 0.0,
-        };
-        refuses(state, number)
-    }
-}
-
-// A run by value that is begun at a lent u and xi, or its refusal.
-pub fn start(sizes: Sizes, at: &[f64], xi: &[f64]) -> PsiAnswered
-    ensures { λ r. ⌜ PsiStarts sizes (now (at .entry)) (now (xi .entry)) r ⌝ }
-{
-    let mut u = matrix_operations::zeros();
-    let mut y = matrix_operations::zeros();
-    let t = matrix_operations::zeros();
-    let work = matrix_operations::zeros();
-    let r = start_in_place(sizes, at, xi, &mut u, &mut y);
-    let outcome = r.outcome;
-    let state = r.state;
-    let run = PsiRun {
-        state,
-        u,
-        y,
-        t,
-        work,
-    };
-    PsiAnswered { outcome, run }
-}
-
-// The point of the question of a run in place, into first; no question of psi has a second.
-pub fn points_in_place<'a>(
-    s: PsiState,
-    first: &mut [f64],
-    second: &mut [f64],
-    u: &'a [f64; 64],
-    t: &'a [f64; 64],
-) -> u32
-    ensures { λ r. ⌜ ((b : PsiBoard) → Points (psiRest (psiRunOf s (psiUT (now (u .entry)) (now (t .entry)) b))) (now (first .entry)) (now (first .exit)) (now (second .entry)) (now (second .exit)) r) ⌝ }
-{
-    let sizes = s.sizes;
-    if sound(sizes) {
-        let phase = s.phase;
-        match phase {
-            PsiPhase::Cost => place(u, sizes.n, u, 0, first, second),
-            PsiPhase::F1 => place(u, sizes.n, u, 0, first, second),
-            PsiPhase::ProjectC => place(t, sizes.n1, t, 0, first, second),
-            PsiPhase::F2 => place(u, sizes.n, u, 0, first, second),
-            PsiPhase::Over => 6,
-        }
-    } else {
-        6
-    }
-}
-
-// The point of the question of a run by value.
-pub fn points(run: PsiRun, first: &mut [f64], second: &mut [f64]) -> u32
-    ensures { λ r. ⌜ Points (psiRest run) (now (first .entry)) (now (first .exit)) (now (second .entry)) (now (second .exit)) r ⌝ }
-{
-    let s = run.state;
-    points_in_place(s, first, second, &run.u, &run.t)
 }

@@ -1,7 +1,5 @@
 // A quadratic with a box, solved by hand; tests/solve_by_hand.py made its stdout from what the Rust prints (`oracle expect`).
 use panoc::panoc_optimizer::answer;
-use panoc::panoc_optimizer::points;
-use panoc::panoc_optimizer::start;
 use panoc_core::panoc_cache::AkktTolerance;
 use panoc_core::panoc_cache::Answered;
 use panoc_core::panoc_cache::Outcome;
@@ -10,6 +8,8 @@ use panoc_core::panoc_cache::Reply;
 use panoc_core::panoc_cache::Run;
 use panoc_core::panoc_cache::Settings;
 use panoc_core::panoc_cache::SolverStatus;
+use panoc_points::points;
+use panoc_starts::start;
 
 // ½ × q × (u - c)²
 fn term(q: f64, u: f64, c: f64) -> f64 {

@@ -12,8 +12,8 @@ use factory::alm_factory::PsiRun;
 use factory::alm_factory::Sizes;
 use panoc_core::panoc_cache::Reply;
 use psi::answer;
-use psi::points;
-use psi::start;
+use psi_points::points;
+use psi_starts::start;
 use words::printing::put_point;
 
 // A run, with the place behind what was printed.

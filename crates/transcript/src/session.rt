@@ -43,7 +43,7 @@ fn no_inner() -> Run {
         akkt_tolerance: AkktTolerance::Missing,
     };
     let none = [0.0; 1];
-    let r = panoc::panoc_optimizer::start(set, &none[..0]);
+    let r = panoc_starts::start(set, &none[..0]);
     r.run
 }
 
@@ -67,7 +67,7 @@ fn no_loop() -> AlmRun {
     };
     let none = [0.0; 1];
     let also = [0.0; 1];
-    let r = alm::alm_optimizer::start(set, &none[..0], &also[..0]);
+    let r = alm_starts::start(set, &none[..0], &also[..0]);
     r.run
 }
 
@@ -76,7 +76,7 @@ fn no_psi() -> PsiRun {
     let sizes = Sizes { n: 0, n1: 0, n2: 0 };
     let none = [0.0; 1];
     let also = [0.0; 1];
-    let r = psi::start(sizes, &none[..0], &also[..0]);
+    let r = psi_starts::start(sizes, &none[..0], &also[..0]);
     r.run
 }
 
@@ -85,7 +85,7 @@ fn no_d_psi() -> DPsiRun {
     let sizes = Sizes { n: 0, n1: 0, n2: 0 };
     let none = [0.0; 1];
     let also = [0.0; 1];
-    let r = d_psi::start(sizes, &none[..0], &also[..0]);
+    let r = d_psi_starts::start(sizes, &none[..0], &also[..0]);
     r.run
 }
 

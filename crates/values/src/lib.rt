@@ -1,11 +1,11 @@
 // Loops of by-value calls, to be timed by bench/values.sh. They are proved safe, and say nothing of what they give.
 use panoc::panoc_optimizer::answer;
-use panoc::panoc_optimizer::start;
 use panoc_core::panoc_cache::AkktTolerance;
 use panoc_core::panoc_cache::Outcome;
 use panoc_core::panoc_cache::Question;
 use panoc_core::panoc_cache::Reply;
 use panoc_core::panoc_cache::Settings;
+use panoc_starts::start;
 
 fn reply_to(q: Question) -> Reply {
     match q {

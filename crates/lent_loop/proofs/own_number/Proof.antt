@@ -1,7 +1,7 @@
 use Rattle.lent_loop.specs.Laws.{own-may, own-takes, short, short-xi, settles, blank}
 use Rattle.alm_image.specs.AlmImage.{almOf}
 use Rattle.alm_image.proofs.Phases.{not-inner}
-use Rattle.alm.specs.LoopLaws.{number-phase}
+use Rattle.alm_calls.specs.LoopLaws.{number-phase}
 use Rattle.alm_core.specs.Board.{setU, setYPlus}
 use Rattle.panoc_core.specs.declared.panoc_cache.Reply.the-variants.{Number}
 use mathlib.Core.List.{[]}

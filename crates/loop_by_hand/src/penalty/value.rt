@@ -8,8 +8,8 @@ use factory::alm_factory::PsiQuestion;
 use factory::alm_factory::PsiRun;
 use panoc_core::panoc_cache::Reply;
 use psi::answer;
-use psi::points;
-use psi::start;
+use psi_points::points;
+use psi_starts::start;
 
 // The point of a question that is asked at u.
 fn at_u(run: PsiRun) -> [f64; 2] {

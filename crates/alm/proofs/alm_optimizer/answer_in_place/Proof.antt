@@ -1,4 +1,4 @@
-use Rattle.alm.specs.LoopLaws.{refusal-wanted, answer-fits, answer-plan, answer-xi, answer-goes, answer-refused}
+use Rattle.alm_calls.specs.LoopLaws.{refusal-wanted, answer-fits, answer-plan, answer-xi, answer-goes, answer-refused}
 use borrow.Author.Needs.{needs}
 use Rattle.alm.proofs.alm_optimizer.answer_in_place.Statement.{statement}
 use Rattle.alm.proofs.alm_optimizer.answer_in_place.Tie as tie

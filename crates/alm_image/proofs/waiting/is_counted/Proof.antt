@@ -1,5 +1,5 @@
 use Rattle.alm_image.specs.AlmImage.{almOf}
-use Rattle.alm.specs.LoopLaws.{counts-far, counts-many, counts-more, counts-last, counts-is}
+use Rattle.alm_calls.specs.LoopLaws.{counts-far, counts-many, counts-more, counts-last, counts-is}
 use borrow.Author.Needs.{needs}
 use Rattle.alm_image.proofs.waiting.is_counted.Statement.{statement}
 use Rattle.alm_image.proofs.waiting.is_counted.Tie as tie

@@ -1,5 +1,5 @@
 use Rattle.alm_image.specs.AlmImage.{almOf}
-use Rattle.alm.specs.LoopLaws.{sized-wide, sized-wide1, sized-wide2, sized-is}
+use Rattle.alm_calls.specs.LoopLaws.{sized-wide, sized-wide1, sized-wide2, sized-is}
 use borrow.Author.Needs.{needs}
 use Rattle.alm_image.proofs.waiting.is_sized.Statement.{statement}
 use Rattle.alm_image.proofs.waiting.is_sized.Tie as tie

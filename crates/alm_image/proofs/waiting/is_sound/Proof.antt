@@ -1,4 +1,4 @@
-use Rattle.alm.specs.LoopLaws.{sound-last, sound-other, sound-not}
+use Rattle.alm_calls.specs.LoopLaws.{sound-last, sound-other, sound-not}
 use Rattle.alm_image.proofs.Phases.{not-last, not-inner}
 use Rattle.alm_core.specs.declared.alm_cache.AlmPhase.the-variants as P
 use Rattle.alm_image.specs.AlmImage.{almOf, phaseOf}

@@ -1,4 +1,4 @@
-use Rattle.alm.specs.LoopLaws.{wants-at, wants-none}
+use Rattle.alm_calls.specs.LoopLaws.{wants-at, wants-none}
 use Rattle.alm_image.proofs.Phases.{not-last, not-inner}
 use Rattle.alm_core.specs.declared.alm_cache.AlmPhase.the-variants as P
 use Rattle.alm_image.specs.AlmImage.{almOf, phaseOf}

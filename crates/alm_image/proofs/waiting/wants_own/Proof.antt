@@ -1,4 +1,4 @@
-use Rattle.alm.specs.LoopCalls.{wantedAt}
+use Rattle.alm_calls.specs.LoopCalls.{wantedAt}
 use Rattle.model.specs.Process.{Kind}
 use mathlib.Core.Option.{some}
 use Prim.Native.Nat.{ℕ}

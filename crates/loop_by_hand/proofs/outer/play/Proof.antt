@@ -5,7 +5,7 @@ use Rattle.loop_by_hand.proofs.outer.play.Statement.{statement}
 use Rattle.loop_by_hand.proofs.outer.play.Tie as tie
 use Rattle.loop_by_hand.proofs.outer.play.Reads as reads
 use Rattle.loop_by_hand.proofs.outer.play.Lts as lts
-use Rattle.alm.proofs.alm_optimizer.start.Reads as start-reads
+use Rattle.alm_starts.proofs.start.Reads as start-reads
 use Rattle.loop_by_hand.proofs.outer.print_lent.Reads as print-lent-reads
 use Rattle.loop_by_hand.proofs.outer.print_outcome.Reads as print-outcome-reads
 use Rattle.loop_by_hand.proofs.outer.settings.Reads as settings-reads

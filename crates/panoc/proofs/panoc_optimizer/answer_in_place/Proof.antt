@@ -5,7 +5,7 @@ use Rattle.model.specs.Refusals.{answerRefusal}
 use Rattle.panoc_core.specs.Values.{replyOf}
 use lib.ListN.{length}
 use Rattle.panoc_core.specs.Board.{nine}
-use Rattle.panoc.proofs.CallLaws.{answer-goes, answer-refused, answer-fits, answer-length, refusal-wanted}
+use Rattle.panoc_answers.proofs.AnswerLaws.{answer-goes, answer-refused, answer-fits, answer-length, refusal-wanted}
 use borrow.Author.Needs.{needs}
 use Rattle.panoc.proofs.panoc_optimizer.answer_in_place.Statement.{statement}
 use Rattle.panoc.proofs.panoc_optimizer.answer_in_place.Tie as tie

@@ -5,7 +5,7 @@ use Rattle.loop_by_hand.proofs.penalty.slope.play.Statement.{statement}
 use Rattle.loop_by_hand.proofs.penalty.slope.play.Tie as tie
 use Rattle.loop_by_hand.proofs.penalty.slope.play.Reads as reads
 use Rattle.loop_by_hand.proofs.penalty.slope.play.Lts as lts
-use Rattle.d_psi.proofs.start.Reads as start-reads
+use Rattle.d_psi_starts.proofs.start.Reads as start-reads
 use Rattle.loop_by_hand.proofs.penalty.slope.tell_end.Reads as tell-end-reads
 use Rattle.loop_by_hand.proofs.penalty.slope.turn.Reads as turn-reads
 use Rattle.loop_by_hand.proofs.penalty.sizes.Reads as sizes-reads

@@ -5,7 +5,7 @@ use Rattle.loop_by_hand.proofs.penalty.value.play.Statement.{statement}
 use Rattle.loop_by_hand.proofs.penalty.value.play.Tie as tie
 use Rattle.loop_by_hand.proofs.penalty.value.play.Reads as reads
 use Rattle.loop_by_hand.proofs.penalty.value.play.Lts as lts
-use Rattle.psi.proofs.start.Reads as start-reads
+use Rattle.psi_starts.proofs.start.Reads as start-reads
 use Rattle.loop_by_hand.proofs.penalty.value.turn.Reads as turn-reads
 use Rattle.loop_by_hand.proofs.penalty.value.value.Reads as value-reads
 use Rattle.loop_by_hand.proofs.penalty.sizes.Reads as sizes-reads

@@ -1,4 +1,0 @@
-pub mod LoopCalls
-pub mod LoopLaws
-pub mod LoopPoints
-pub mod LoopPointLaws

@@ -1,0 +1,2 @@
+pub mod LoopCalls
+pub mod LoopLaws

@@ -1,0 +1,235 @@
+// The points of the question that a run of the loop waits with.
+ghost use mathlib.Core.Path.{_≡_};
+ghost use lib.ListN.{length};
+ghost use Rattle.alm_core.specs.Rest.{LoopBoard};
+ghost use Prim.Native.Nat.{_≤_};
+ghost use Rattle.model.specs.Refusals as R;
+ghost use Rattle.alm_calls.specs.LoopCalls.{runOf, Points};
+ghost use Rattle.alm_core.specs.Board.{Sound};
+ghost use Rattle.alm_points.specs.LoopPoints.{carriesXi, firstPlaces, innerSecond, secondPlaces, firstAt, innerSecondAt, secondAt, asked};
+use alm_calls::lent::fill_xi;
+use alm_calls::wanted::is_waiting;
+use alm_core::alm_cache::Alm;
+use alm_core::alm_cache::AlmPhase;
+use alm_core::alm_cache::AlmRun;
+use panoc_core::panoc_cache::Phase;
+use panoc_core::panoc_cache::Solve;
+
+// Whether a question of the inner solve comes with xi: COST and GRADIENT do.
+pub fn carries_xi(s: Solve) -> bool
+    ensures { λ r. ⌜ r ≡ carriesXi (s .phase) ⌝ }
+{
+    let phase = s.phase;
+    carries_xi_at(phase)
+}
+
+// The same at a phase.
+pub fn carries_xi_at(phase: Phase) -> bool
+    ensures { λ r. ⌜ r ≡ carriesXi phase ⌝ }
+{
+    match phase {
+        Phase::Cost => true,
+        Phase::Gradient => true,
+        Phase::Shifted => true,
+        Phase::Project => false,
+        Phase::HalfCost => true,
+        Phase::DoubledProject => false,
+        Phase::DoubledCost => true,
+        Phase::Direction => false,
+        Phase::FirstCost => true,
+        Phase::FirstGradient => true,
+        Phase::FirstProject => false,
+        Phase::TriedCost => true,
+        Phase::TriedGradient => true,
+        Phase::TriedProject => false,
+        Phase::Time => false,
+        Phase::LastCost => true,
+        Phase::Over => false,
+    }
+}
+
+// How many places xi has: none where n1 = n2 = 0, else the penalty's and n1.
+pub fn xi_places(n1: usize, n2: usize) -> usize
+    requires { ⌜ n1 ≤ 32 ⌝ }
+    ensures { λ r. ⌜ r ≡ R.xiLength n1 n2 ⌝ }
+{
+    if n1 == 0 {
+        if n2 == 0 { 0 } else { n1 + 1 }
+    } else {
+        n1 + 1
+    }
+}
+
+// How many places the first point of the question has.
+pub fn first_places(s: Alm) -> usize
+    ensures { λ r. ⌜ r ≡ firstPlaces s (s .phase) ⌝ }
+{
+    let phase = s.phase;
+    match phase {
+        AlmPhase::Time => 0,
+        AlmPhase::ProjectY => s.set.n1,
+        AlmPhase::Inner => panoc_points::first_places(s.solve),
+        AlmPhase::F1 => s.set.n,
+        AlmPhase::ProjectC => s.set.n1,
+        AlmPhase::F2 => s.set.n,
+        AlmPhase::LastCost => s.set.n,
+        AlmPhase::Over => 0,
+    }
+}
+
+// How many places the second point of the inner solve's question has.
+fn inner_second_places(s: Alm) -> usize
+    requires { ⌜ s .set .n1 ≤ 32 ⌝ }
+    ensures { λ r. ⌜ r ≡ innerSecond s ⌝ }
+{
+    if carries_xi(s.solve) {
+        xi_places(s.set.n1, s.set.n2)
+    } else {
+        panoc_points::second_places(s.solve)
+    }
+}
+
+// How many places the second point of the question has.
+pub fn second_places(s: Alm) -> usize
+    requires { ⌜ s .set .n1 ≤ 32 ⌝ }
+    ensures { λ r. ⌜ r ≡ secondPlaces s (s .phase) ⌝ }
+{
+    let phase = s.phase;
+    match phase {
+        AlmPhase::Time => 0,
+        AlmPhase::ProjectY => 0,
+        AlmPhase::Inner => inner_second_places(s),
+        AlmPhase::F1 => 0,
+        AlmPhase::ProjectC => 0,
+        AlmPhase::F2 => 0,
+        AlmPhase::LastCost => xi_places(s.set.n1, s.set.n2),
+        AlmPhase::Over => 0,
+    }
+}
+
+// The first point of the question that the run waits with.
+fn first_point(
+    s: Alm,
+    first: &mut [f64],
+    u: &[f64; 64],
+    candidate: &[f64; 64],
+    step: &[f64; 64],
+    half: &[f64; 64],
+    fpr: &[f64; 64],
+    best: &[f64; 64],
+    y: &[f64; 64],
+    plus: &[f64; 64],
+)
+    requires { ⌜ (Sound s) × (length (now first) ≡ firstPlaces s (s .phase)) ⌝ }
+    ensures { λ _. ⌜ ((b : LoopBoard) → now (first .exit) ≡ firstAt s (asked (now (u .entry)) (now (candidate .entry)) (now (step .entry)) (now (half .entry)) (now (fpr .entry)) (now (best .entry)) (now (y .entry)) (now (plus .entry)) b) (s .phase) (now (first .entry))) ⌝ }
+{
+    let phase = s.phase;
+    match phase {
+        AlmPhase::Time => {}
+        AlmPhase::ProjectY => matrix_operations::give(y, first),
+        AlmPhase::Inner => panoc_points::first_point(
+            s.solve,
+            first,
+            u,
+            candidate,
+            step,
+            half,
+            fpr,
+            best,
+        ),
+        AlmPhase::F1 => matrix_operations::give(best, first),
+        AlmPhase::ProjectC => matrix_operations::give(plus, first),
+        AlmPhase::F2 => matrix_operations::give(best, first),
+        AlmPhase::LastCost => matrix_operations::give(u, first),
+        AlmPhase::Over => {}
+    }
+}
+
+// The second point of the inner solve's question: xi, or u for DIRECTION.
+fn inner_second_point(s: Alm, second: &mut [f64], u: &[f64; 64], y: &[f64; 64])
+    requires { ⌜ (s .set .n1 ≤ 32) × (s .solve .set .n ≤ 64) × (length (now second) ≡ innerSecond s) ⌝ }
+    ensures { λ _. ⌜ now (second .exit) ≡ innerSecondAt s (now (u .entry)) (now (y .entry)) (now (second .entry)) ⌝ }
+{
+    if carries_xi(s.solve) {
+        fill_xi(s.numbers.penalty, y, second);
+    } else {
+        matrix_operations::give(u, second);
+    }
+}
+
+// The second point of the question that the run waits with.
+fn second_point(s: Alm, second: &mut [f64], u: &[f64; 64], y: &[f64; 64])
+    requires { ⌜ (Sound s) × (length (now second) ≡ secondPlaces s (s .phase)) ⌝ }
+    ensures { λ _. ⌜ now (second .exit) ≡ secondAt s (now (u .entry)) (now (y .entry)) (s .phase) (now (second .entry)) ⌝ }
+{
+    let phase = s.phase;
+    match phase {
+        AlmPhase::Time => {}
+        AlmPhase::ProjectY => {}
+        AlmPhase::Inner => inner_second_point(s, second, u, y),
+        AlmPhase::F1 => {}
+        AlmPhase::ProjectC => {}
+        AlmPhase::F2 => {}
+        AlmPhase::LastCost => fill_xi(0.0, y, second),
+        AlmPhase::Over => {}
+    }
+}
+
+// The points of the question of a run in place: 0, or 6 where it has ended and 8 where a slice is not as long as its point.
+pub fn points_in_place(
+    s: Alm,
+    first: &mut [f64],
+    second: &mut [f64],
+    u: &[f64; 64],
+    candidate: &[f64; 64],
+    step: &[f64; 64],
+    half: &[f64; 64],
+    fpr: &[f64; 64],
+    best: &[f64; 64],
+    y: &[f64; 64],
+    plus: &[f64; 64],
+) -> u32
+    ensures { λ r. ⌜ ((b : LoopBoard) → Points (runOf s (asked (now (u .entry)) (now (candidate .entry)) (now (step .entry)) (now (half .entry)) (now (fpr .entry)) (now (best .entry)) (now (y .entry)) (now (plus .entry)) b)) (now (first .entry)) (now (first .exit)) (now (second .entry)) (now (second .exit)) r) ⌝ }
+{
+    if is_waiting(s) {
+        if first.len() != first_places(s) {
+            return 8;
+        }
+        if second.len() != second_places(s) {
+            return 8;
+        }
+        first_point(s, first, u, candidate, step, half, fpr, best, y, plus);
+        second_point(s, second, u, y);
+        0
+    } else {
+        6
+    }
+}
+
+// The points of the question of a run by value.
+pub fn points(run: AlmRun, first: &mut [f64], second: &mut [f64]) -> u32
+    ensures { λ r. ⌜ Points run (now (first .entry)) (now (first .exit)) (now (second .entry)) (now (second .exit)) r ⌝ }
+{
+    let s = run.alm;
+    let u = run.u;
+    let candidate = run.u_plus;
+    let step = run.gradient_step;
+    let half = run.u_half_step;
+    let fpr = run.gamma_fpr;
+    let best = run.best_u_half_step;
+    let y = run.y;
+    let plus = run.y_plus;
+    points_in_place(
+        s,
+        first,
+        second,
+        &u,
+        &candidate,
+        &step,
+        &half,
+        &fpr,
+        &best,
+        &y,
+        &plus,
+    )
+}
