@@ -58,7 +58,7 @@ pub fn hand_out(outcome: AlmOutcome, u: &[f64; 64], plan: &mut [f64])
     ensures { λ _. ⌜ now (plan .exit) ≡ given outcome (firsts (length (now (plan .entry))) (now (u .entry))) (now (plan .entry)) ⌝ }
 {
     match outcome {
-        AlmOutcome::Ended(_) => matrix_operations::give(u, plan),
+        AlmOutcome::Ended(_) => vector_copies::give(u, plan),
         AlmOutcome::Asked(_) => {}
         AlmOutcome::Refused(_) => {}
         AlmOutcome::Failed(_) => {}
@@ -71,7 +71,7 @@ fn give_xi(penalty: f64, y: &[f64; 64], xi: &mut [f64])
     ensures { λ _. ⌜ now (xi .exit) ≡ penalty ∷ firsts (length (now (xi .entry)) - 1) (now (y .entry)) ⌝ }
 {
     xi[0] = penalty;
-    matrix_operations::give(y, &mut xi[1..]);
+    vector_copies::give(y, &mut xi[1..]);
 }
 
 // The same, of a xi that may be empty.
@@ -332,7 +332,7 @@ pub fn start_in_place(
     let number = start_refusal(set, plan.len(), xi);
     let penalty = penalty_in(xi);
     if number == 0 {
-        matrix_operations::take_into(plan, u);
+        vector_copies::take_into(plan, u);
         multipliers_in(xi, y);
         multipliers_in(xi, plus);
         let s = first(set, penalty, set.max_outer_iterations - 1);
@@ -347,13 +347,13 @@ pub fn start_in_place(
 pub fn start(set: AlmSettings, u: &[f64], xi: &[f64]) -> AlmAnswered
     ensures { λ r. ⌜ Starts set (now (u .entry)) (now (xi .entry)) r ⌝ }
 {
-    let mut v = matrix_operations::zeros();
-    let mut y = matrix_operations::zeros();
-    let mut plus = matrix_operations::zeros();
+    let mut v = vector_copies::zeros();
+    let mut y = vector_copies::zeros();
+    let mut plus = vector_copies::zeros();
     let r = start_in_place(set, u, xi, &mut v, &mut y, &mut plus);
     let outcome = r.outcome;
     let alm = r.alm;
-    let zeros = matrix_operations::zeros();
+    let zeros = vector_copies::zeros();
     let run = AlmRun {
         alm,
         u: v,

@@ -53,8 +53,8 @@ fn add_product(c: f64, v: &[f64], gradient: &mut [f64; 64], work: &mut [f64; 64]
     requires { ⌜ (n ≤ 64) × (length (now v) ≡ n) ⌝ }
     ensures { λ _. ⌜ firsts n (now (gradient .exit)) ≡ plusTimes binary64 c (firsts n (now (gradient .entry))) (now (v .entry)) ⌝ }
 {
-    matrix_operations::take_into(v, work);
-    matrix_operations::add_times(c, work, gradient, n);
+    vector_copies::take_into(v, work);
+    vector_updates::add_times(c, work, gradient, n);
 }
 
 // The part of F1 is in the gradient: F2, or the end where there is none.
@@ -74,7 +74,7 @@ fn on_gradient(s: DPsiState, v: &[f64], gradient: &mut [f64; 64]) -> DPsiStepped
     requires { ⌜ (Sound (s .sizes)) × (s .phase ≡ DPsiPhase.Gradient) × (length (now v) ≡ s .sizes .n) ⌝ }
     ensures { λ r. ⌜ ((b : DPsiBoard) → DPsiTakes s (dPsiG (now (gradient .entry)) b) Reply.Vector (now (v .entry)) r (dPsiG (now (gradient .exit)) b)) ⌝ }
 {
-    matrix_operations::take_into(v, gradient);
+    vector_copies::take_into(v, gradient);
     if s.sizes.n1 == 0 {
         ask_f2(s)
     } else {
@@ -95,8 +95,8 @@ fn on_f1(
 {
     let n1 = s.sizes.n1;
     let scale = divisor(s.c);
-    matrix_operations::take_into(v, work);
-    matrix_operations::plus_over_into(scale, work, y, t, n1);
+    vector_copies::take_into(v, work);
+    vector_updates::plus_over_into(scale, work, y, t, n1);
     to(
         s,
         DPsiPhase::ProjectC,
@@ -116,8 +116,8 @@ fn on_project_c(
     ensures { λ r. ⌜ ((b : DPsiBoard) → DPsiTakes s (dPsiTDW (now (t .entry)) (now (d .entry)) (now (work .entry)) b) Reply.Vector (now (v .entry)) r (dPsiTDW (now (t .entry)) (now (d .exit)) (now (work .exit)) b)) ⌝ }
 {
     let n1 = s.sizes.n1;
-    matrix_operations::take_into(v, work);
-    matrix_operations::minus_into(t, work, d, n1);
+    vector_copies::take_into(v, work);
+    vector_updates::minus_into(t, work, d, n1);
     to(s, DPsiPhase::Jf1t, DPsiOutcome::Asked(PsiQuestion::Jf1t))
 }
 
@@ -136,7 +136,7 @@ fn on_f2(s: DPsiState, v: &[f64], d: &mut [f64; 64]) -> DPsiStepped
     requires { ⌜ (Sound (s .sizes)) × (s .phase ≡ DPsiPhase.F2) × (length (now v) ≡ s .sizes .n2) ⌝ }
     ensures { λ r. ⌜ ((b : DPsiBoard) → DPsiTakes s (dPsiD (now (d .entry)) b) Reply.Vector (now (v .entry)) r (dPsiD (now (d .exit)) b)) ⌝ }
 {
-    matrix_operations::take_into(v, d);
+    vector_copies::take_into(v, d);
     to(s, DPsiPhase::Jf2t, DPsiOutcome::Asked(PsiQuestion::Jf2t))
 }
 
@@ -235,7 +235,7 @@ fn hand_out(o: DPsiOutcome, gradient: &[f64; 64], result: &mut [f64])
     ensures { λ _. ⌜ now (result .exit) ≡ given o (firsts (length (now (result .entry))) (now (gradient .entry))) (now (result .entry)) ⌝ }
 {
     match o {
-        DPsiOutcome::Ended => matrix_operations::give(gradient, result),
+        DPsiOutcome::Ended => vector_copies::give(gradient, result),
         DPsiOutcome::Asked(_) => {}
         DPsiOutcome::Refused(_) => {}
         DPsiOutcome::Failed(_) => {}
@@ -316,7 +316,7 @@ pub fn start_in_place(
 {
     let number = start_refusal(sizes, at.len(), xi.len());
     if number == 0 {
-        matrix_operations::take_into(at, u);
+        vector_copies::take_into(at, u);
         multipliers_in(xi, y);
         let c = penalty_in(xi);
         let state = DPsiState {
@@ -342,12 +342,12 @@ pub fn start_in_place(
 pub fn start(sizes: Sizes, at: &[f64], xi: &[f64]) -> DPsiAnswered
     ensures { λ r. ⌜ DPsiStarts sizes (now (at .entry)) (now (xi .entry)) r ⌝ }
 {
-    let mut u = matrix_operations::zeros();
-    let mut y = matrix_operations::zeros();
-    let gradient = matrix_operations::zeros();
-    let t = matrix_operations::zeros();
-    let d = matrix_operations::zeros();
-    let work = matrix_operations::zeros();
+    let mut u = vector_copies::zeros();
+    let mut y = vector_copies::zeros();
+    let gradient = vector_copies::zeros();
+    let t = vector_copies::zeros();
+    let d = vector_copies::zeros();
+    let work = vector_copies::zeros();
     let r = start_in_place(sizes, at, xi, &mut u, &mut y);
     let outcome = r.outcome;
     let state = r.state;

@@ -9,8 +9,8 @@ use alm::alm_optimizer::fill_xi;
 use alm::alm_points::carries_xi_at;
 use alm::alm_points::xi_places;
 use image::kinds::phase_of;
-use matrix_operations::give;
 use panoc::panoc_optimizer::second_places_at;
+use vector_copies::give;
 
 // How many places the second point of the question has.
 pub fn places(

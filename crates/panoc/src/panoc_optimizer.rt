@@ -94,7 +94,7 @@ pub fn start_in_place(set: Settings, first: &[f64], u: &mut [f64; 64]) -> Steppe
     let number = start_refusal(set, first.len());
     let solve = begin(set);
     if number == 0 {
-        matrix_operations::take_into(first, u);
+        vector_copies::take_into(first, u);
         Stepped {
             outcome: Outcome::Asked(Question::Cost),
             solve,
@@ -108,11 +108,11 @@ pub fn start_in_place(set: Settings, first: &[f64], u: &mut [f64; 64]) -> Steppe
 pub fn start(set: Settings, u: &[f64]) -> Answered
     ensures { λ r. ⌜ Starts set (now (u .entry)) r ⌝ }
 {
-    let mut v = matrix_operations::zeros();
+    let mut v = vector_copies::zeros();
     let r = start_in_place(set, u, &mut v);
     let outcome = r.outcome;
     let solve = r.solve;
-    let zeros = matrix_operations::zeros();
+    let zeros = vector_copies::zeros();
     let run = Run {
         solve,
         u: v,
@@ -134,7 +134,7 @@ fn hand_out(outcome: Outcome, best: &[f64; 64], plan: &mut [f64])
     ensures { λ _. ⌜ now (plan .exit) ≡ given outcome (firsts (length (now (plan .entry))) (now (best .entry))) (now (plan .entry)) ⌝ }
 {
     match outcome {
-        Outcome::Ended(_) => matrix_operations::give(best, plan),
+        Outcome::Ended(_) => vector_copies::give(best, plan),
         Outcome::Asked(_) => {}
         Outcome::Refused(_) => {}
         Outcome::Failed(_) => {}
@@ -309,22 +309,22 @@ pub fn first_point(
 {
     let phase = s.phase;
     match phase {
-        Phase::Cost => matrix_operations::give(u, first),
-        Phase::Gradient => matrix_operations::give(u, first),
-        Phase::Shifted => matrix_operations::give(u, first),
-        Phase::Project => matrix_operations::give(step, first),
-        Phase::HalfCost => matrix_operations::give(half, first),
-        Phase::DoubledProject => matrix_operations::give(step, first),
-        Phase::DoubledCost => matrix_operations::give(half, first),
-        Phase::Direction => matrix_operations::give(fpr, first),
-        Phase::FirstCost => matrix_operations::give(u, first),
-        Phase::FirstGradient => matrix_operations::give(u, first),
-        Phase::FirstProject => matrix_operations::give(step, first),
-        Phase::TriedCost => matrix_operations::give(plus, first),
-        Phase::TriedGradient => matrix_operations::give(plus, first),
-        Phase::TriedProject => matrix_operations::give(step, first),
+        Phase::Cost => vector_copies::give(u, first),
+        Phase::Gradient => vector_copies::give(u, first),
+        Phase::Shifted => vector_copies::give(u, first),
+        Phase::Project => vector_copies::give(step, first),
+        Phase::HalfCost => vector_copies::give(half, first),
+        Phase::DoubledProject => vector_copies::give(step, first),
+        Phase::DoubledCost => vector_copies::give(half, first),
+        Phase::Direction => vector_copies::give(fpr, first),
+        Phase::FirstCost => vector_copies::give(u, first),
+        Phase::FirstGradient => vector_copies::give(u, first),
+        Phase::FirstProject => vector_copies::give(step, first),
+        Phase::TriedCost => vector_copies::give(plus, first),
+        Phase::TriedGradient => vector_copies::give(plus, first),
+        Phase::TriedProject => vector_copies::give(step, first),
         Phase::Time => {}
-        Phase::LastCost => matrix_operations::give(best, first),
+        Phase::LastCost => vector_copies::give(best, first),
         Phase::Over => {}
     }
 }
@@ -351,7 +351,7 @@ pub fn points_in_place(
             return 8;
         }
         first_point(s, first, u, plus, step, half, fpr, best);
-        matrix_operations::give(u, second);
+        vector_copies::give(u, second);
         0
     } else {
         6
