@@ -7,10 +7,10 @@ use mathlib.Core.Option.{Option, none, some}
 use lib.Dec.{leb, eqb}
 use lib.ListN.{length, take, drop}
 use lib.Ieee.{Float, binary64, ofBits}
-use Rattle.words.specs.Reading.{wholeOf, flagOf, floatOf, isDash}
+use Rattle.word_numbers.specs.Reading.{wholeOf, flagOf, floatOf, isDash}
 use Rattle.words.specs.Splitting.{wordsOf}
-use Rattle.words.specs.Values.{toleranceIs}
-use Rattle.words.specs.declared.reading.Tolerance.{Tolerance}
+use Rattle.word_values.specs.Values.{toleranceIs}
+use Rattle.word_values.specs.declared.Tolerance.{Tolerance}
 
 -- the words that are left; none where a word was of another form
 abbrev pub Left : Type 0

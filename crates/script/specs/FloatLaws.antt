@@ -9,7 +9,7 @@ use native.Mathlib.Numerals.{add-one}
 use lib.ListN.{length, take, drop, set, length-set}
 use lib.Seq.{take-suc-set, append-snoc}
 use lib.Ieee.{Float}
-use Rattle.words.specs.Reading.{floatOf}
+use Rattle.word_numbers.specs.Reading.{floatOf}
 use Rattle.words.specs.Splitting.{firstWord}
 use Rattle.words.specs.Words.{behind}
 use Rattle.script.specs.Fields.{Left, leftAt, Field, GivesFloats, consField, floatsField}

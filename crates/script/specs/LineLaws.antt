@@ -13,7 +13,7 @@ use lib.Ieee.{Float}
 use borrow.Author.Tests.{leb-true, leb-false, lt-ltb, le-ltb, eq-eqb, ne-eqb, eqb-true, eqb-false}
 use Rattle.words.specs.Splitting.{firstWord, wordsOf}
 use Rattle.words.specs.Words.{behind, words-first}
-use Rattle.words.specs.declared.reading.Tolerance.{Tolerance}
+use Rattle.word_values.specs.declared.Tolerance.{Tolerance}
 use Rattle.script.specs.declared.keywords.Keyword.{Keyword}
 use Rattle.script.specs.declared.command.Command.{Command}
 use Rattle.script.specs.declared.command.Given.{Given}

@@ -1,5 +1,5 @@
 // A line as a command.
-use words::reading::Tolerance;
+use word_values::Tolerance;
 
 // What an inner solve is started with, less u.
 pub struct InnerStart {

@@ -6,16 +6,16 @@ ghost use lib.Dec.{eqb};
 ghost use Prim.Native.Nat.{suc};
 ghost use lib.ListN.{length};
 ghost use Rattle.script.specs.Fields.{leftAt, Gives, GivesFloats, wholeField, codeField, flagField, floatField, toleranceField, floatsField};
-use words::reading::Flag;
-use words::reading::Real;
-use words::reading::Tolerance;
-use words::reading::Whole;
-use words::reading::read_flag;
-use words::reading::read_float;
-use words::reading::read_tolerance;
-use words::reading::read_whole;
-use words::reading::read_whole32;
-use words::splitting::word;
+use word_numbers::Whole;
+use word_numbers::read_whole;
+use word_numbers::read_whole32;
+use word_values::Flag;
+use word_values::Real;
+use word_values::Tolerance;
+use word_values::read_flag;
+use word_values::read_float;
+use word_values::read_tolerance;
+use words::word;
 
 const BAD: usize = 18446744073709551615;
 

@@ -1,7 +1,7 @@
 // The first word of a line.
 ghost use mathlib.Core.Path.{_≡_};
 ghost use Rattle.script.specs.Keywords.{keywordOf, startOf};
-use words::splitting::same;
+use words::same;
 
 pub enum Keyword {
     Inner,

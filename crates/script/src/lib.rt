@@ -22,7 +22,7 @@ use starts::d_psi;
 use starts::inner;
 use starts::outer;
 use starts::psi;
-use words::splitting::word;
+use words::word;
 
 // What a line says; the floats go into the lent slices, which have as many places as may be lent.
 pub fn said(line: &[u8], first: &mut [f64], second: &mut [f64]) -> Said

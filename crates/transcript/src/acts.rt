@@ -19,7 +19,7 @@ use crate::starts::loop_settings;
 use crate::starts::psi_sizes;
 use crate::starts::reply;
 use script::command::Command;
-use words::printing::put_word;
+use word_printing::put_word;
 
 // What is lent after lend: psi lends nothing, d_psi its result alone.
 fn relent(s: Session, us: usize, xis: usize, u: &mut [f64], xi: &mut [f64]) -> Lent {

@@ -7,6 +7,8 @@ use crate::output::places;
 use crate::output::put_end;
 use crate::output::put_failed;
 use crate::output::put_refused;
+use line_printing::put_floats;
+use line_printing::put_point;
 use panoc::panoc_optimizer::answer;
 use panoc::panoc_optimizer::first_places;
 use panoc::panoc_optimizer::points;
@@ -18,9 +20,7 @@ use panoc_core::panoc_cache::Reply;
 use panoc_core::panoc_cache::Run;
 use panoc_core::panoc_cache::Settings;
 use panoc_core::panoc_cache::SolverStatus;
-use words::printing::put_floats;
-use words::printing::put_point;
-use words::printing::put_word;
+use word_printing::put_word;
 
 // A run, with the place behind what was printed.
 pub struct InnerLine {

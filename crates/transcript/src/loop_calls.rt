@@ -19,12 +19,12 @@ use alm_core::alm_cache::AlmOutcome;
 use alm_core::alm_cache::AlmQuestion;
 use alm_core::alm_cache::AlmRun;
 use alm_core::alm_cache::AlmSettings;
+use line_printing::put_counted;
+use line_printing::put_floats;
+use line_printing::put_point;
 use panoc_core::panoc_cache::Question;
 use panoc_core::panoc_cache::Reply;
-use words::printing::put_counted;
-use words::printing::put_floats;
-use words::printing::put_point;
-use words::printing::put_word;
+use word_printing::put_word;
 
 // A run, with the place behind what was printed.
 pub struct LoopLine {

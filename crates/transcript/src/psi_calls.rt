@@ -10,11 +10,11 @@ use factory::alm_factory::PsiOutcome;
 use factory::alm_factory::PsiQuestion;
 use factory::alm_factory::PsiRun;
 use factory::alm_factory::Sizes;
+use line_printing::put_point;
 use panoc_core::panoc_cache::Reply;
 use psi::answer;
 use psi::points;
 use psi::start;
-use words::printing::put_point;
 
 // A run, with the place behind what was printed.
 pub struct PsiLine {

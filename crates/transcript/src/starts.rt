@@ -8,7 +8,7 @@ use script::command::Given;
 use script::command::InnerStart;
 use script::command::LoopStart;
 use script::command::PsiStart;
-use words::reading::Tolerance;
+use word_values::Tolerance;
 
 // The AKKT tolerance of an inner solve.
 fn akkt(t: Tolerance) -> AkktTolerance {

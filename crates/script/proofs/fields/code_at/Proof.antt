@@ -2,8 +2,8 @@
 use Prim.Native.Nat.{_^_}
 use mathlib.Core.Path.{sym, _∙_}
 use native.Mathlib.Omega.{arith}
-use Rattle.words.specs.Reading.{wholeOf}
-use Rattle.words.specs.Answers.{whole-some, whole-none}
+use Rattle.word_numbers.specs.Reading.{wholeOf}
+use Rattle.word_numbers.specs.Answers.{whole-some, whole-none}
 use Rattle.script.specs.FieldLaws.{gives-past, gives-found, gives-other}
 use borrow.Author.Needs.{needs}
 use Rattle.script.proofs.fields.code_at.Statement.{statement}

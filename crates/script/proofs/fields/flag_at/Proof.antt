@@ -2,8 +2,8 @@
 use mathlib.Core.Path.{sym, _∙_}
 use mathlib.Core.Bool.{false}
 use native.Mathlib.Omega.{arith}
-use Rattle.words.specs.Reading.{flagOf}
-use Rattle.words.specs.Answers.{flag-some, flag-none}
+use Rattle.word_numbers.specs.Reading.{flagOf}
+use Rattle.word_values.specs.Answers.{flag-some, flag-none}
 use Rattle.script.specs.FieldLaws.{gives-past, gives-found, gives-other}
 use borrow.Author.Needs.{needs}
 use Rattle.script.proofs.fields.flag_at.Statement.{statement}

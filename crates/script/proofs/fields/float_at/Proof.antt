@@ -2,8 +2,8 @@
 use mathlib.Core.Path.{sym, _∙_}
 use native.Mathlib.Omega.{arith}
 use lib.Ieee.{binary64, ofBits}
-use Rattle.words.specs.Reading.{floatOf}
-use Rattle.words.specs.Answers.{real-some, real-none}
+use Rattle.word_numbers.specs.Reading.{floatOf}
+use Rattle.word_values.specs.Answers.{real-some, real-none}
 use Rattle.script.specs.FieldLaws.{gives-past, gives-found, gives-other}
 use borrow.Author.Needs.{needs}
 use Rattle.script.proofs.fields.float_at.Statement.{statement}

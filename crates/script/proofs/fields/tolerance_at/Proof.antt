@@ -1,7 +1,7 @@
 -- `script::fields::tolerance_at` meets its contract: past the end, found, or of another form. Assumes nothing.
 use mathlib.Core.Path.{sym, ap, _∙_}
 use native.Mathlib.Omega.{arith}
-use Rattle.words.specs.declared.reading.Tolerance.{Tolerance}
+use Rattle.word_values.specs.declared.Tolerance.{Tolerance}
 use Rattle.script.specs.Fields.{toleranceOf, unlessOther}
 use Rattle.script.specs.FieldLaws.{gives-past, gives-found, gives-other}
 use borrow.Author.Needs.{needs}
