@@ -1,8 +1,8 @@
 #!/usr/bin/env bash
-# The C library, target/staticlib/libpozkerrin.a, out of the four crates that export calls. The header is crates/host/include/pozkerrin.h.
+# The C library, target/staticlib/libpozkerrin.a, out of the five crates that export calls. The header is crates/host/include/pozkerrin.h.
 set -euo pipefail
 cd "$(dirname "$0")/../.."
-crates=(host host_loop host_points host_psi)
+crates=(host host_loop host_points host_psi host_d_psi)
 for crate in "${crates[@]}"; do rt staticlib "$crate"; done
 cd target/staticlib
 { echo "create libpozkerrin.a"; printf 'addlib lib%s.a\n' "${crates[@]}"; echo "save"; echo "end"; } | ar -M

@@ -1,8 +1,8 @@
 use Rattle.psi_image.specs.PsiStored.{d-psi-stored}
-use Rattle.host_psi.proofs.Laws.{d-psi-answers}
+use Rattle.host_d_psi.proofs.Laws.{d-psi-answers}
 use borrow.Author.Needs.{needs}
-use Rattle.host_psi.proofs.d_psi_calls.pozkerrin_d_psi_answer.Statement.{statement}
-use Rattle.host_psi.proofs.d_psi_calls.pozkerrin_d_psi_answer.Tie as tie
+use Rattle.host_d_psi.proofs.pozkerrin_d_psi_answer.Statement.{statement}
+use Rattle.host_d_psi.proofs.pozkerrin_d_psi_answer.Tie as tie
 
 d-psi-of-requires : tie.Need-d-psi-of-requires
 d-psi-of-requires c κs = search needs

@@ -1,8 +1,8 @@
 use Rattle.psi_image.specs.PsiStored.{psi-stored}
 use Rattle.host_psi.proofs.Laws.{psi-answers}
 use borrow.Author.Needs.{needs}
-use Rattle.host_psi.proofs.psi_calls.pozkerrin_psi_answer.Statement.{statement}
-use Rattle.host_psi.proofs.psi_calls.pozkerrin_psi_answer.Tie as tie
+use Rattle.host_psi.proofs.pozkerrin_psi_answer.Statement.{statement}
+use Rattle.host_psi.proofs.pozkerrin_psi_answer.Tie as tie
 
 psi-of-requires : tie.Need-psi-of-requires
 psi-of-requires c κs = search needs

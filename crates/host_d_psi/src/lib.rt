@@ -1,4 +1,4 @@
-// d_psi, the gradient of psi.
+// The public calls of d_psi, the gradient of psi, for C, as the crate host has those of the inner solve.
 ghost use mathlib.Core.Path.{_≡_};
 ghost use Rattle.factory.specs.FactoryBoard.{DPsiBoard, dPsiRunOf, dPsiGave, dPsiUY, dPsiFive, dPsiUTD};
 ghost use Rattle.factory.specs.FactoryCalls.{DPsiStarts, DPsiAnswers, Points};
