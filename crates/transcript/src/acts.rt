@@ -18,7 +18,7 @@ use crate::starts::inner_settings;
 use crate::starts::loop_settings;
 use crate::starts::psi_sizes;
 use crate::starts::reply;
-use script::command::Command;
+use line_starts::command::Command;
 use word_printing::put_word;
 
 // What is lent after lend: psi lends nothing, d_psi its result alone.
