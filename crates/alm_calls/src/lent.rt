@@ -27,7 +27,7 @@ pub fn hand_out(outcome: AlmOutcome, u: &[f64; 64], plan: &mut [f64])
     ensures { λ _. ⌜ now (plan .exit) ≡ given outcome (firsts (length (now (plan .entry))) (now (u .entry))) (now (plan .entry)) ⌝ }
 {
     match outcome {
-        AlmOutcome::Ended(_) => matrix_operations::give(u, plan),
+        AlmOutcome::Ended(_) => vector_copies::give(u, plan),
         AlmOutcome::Asked(_) => {}
         AlmOutcome::Refused(_) => {}
         AlmOutcome::Failed(_) => {}
@@ -40,7 +40,7 @@ fn give_xi(penalty: f64, y: &[f64; 64], xi: &mut [f64])
     ensures { λ _. ⌜ now (xi .exit) ≡ penalty ∷ firsts (length (now (xi .entry)) - 1) (now (y .entry)) ⌝ }
 {
     xi[0] = penalty;
-    matrix_operations::give(y, &mut xi[1..]);
+    vector_copies::give(y, &mut xi[1..]);
 }
 
 // The same, of a xi that may be empty.

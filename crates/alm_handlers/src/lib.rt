@@ -38,7 +38,7 @@ pub fn on_f2(
     ensures { λ r. ⌜ ((b : LoopBoard) → Takes s (five (now (u .entry)) (now (scratch .entry)) (now (best .entry)) (now (y .entry)) (now (plus .entry)) b) Vector (now (v .entry)) r (five (now (u .exit)) (now (scratch .exit)) (now (best .entry)) (now (y .exit)) (now (plus .entry)) b)) ⌝ }
 {
     let n2 = s.set.n2;
-    matrix_operations::take_into(v, scratch);
+    vector_copies::take_into(v, scratch);
     let norm = matrix_operations::norm2(scratch, n2);
     let mut t = s;
     t.numbers.f2_norm_plus = norm;
@@ -57,8 +57,8 @@ pub fn on_f1(
     ensures { λ r. ⌜ ((b : LoopBoard) → Takes s (setY (now (y .entry)) (setYPlus (now (plus .entry)) (setW (now (w .entry)) b))) Vector (now (v .entry)) r (setY (now (y .entry)) (setYPlus (now (plus .exit)) (setW (now (w .exit)) b)))) ⌝ }
 {
     let n1 = s.set.n1;
-    matrix_operations::take_into(v, w);
-    matrix_operations::plus_over_into(s.numbers.penalty, w, y, plus, n1);
+    vector_copies::take_into(v, w);
+    vector_updates::plus_over_into(s.numbers.penalty, w, y, plus, n1);
     asks(s, AlmPhase::ProjectC, AlmQuestion::ProjectC)
 }
 
@@ -77,8 +77,8 @@ pub fn on_project_c(
     ensures { λ r. ⌜ ((b : LoopBoard) → Takes s (six (now (u .entry)) (now (scratch .entry)) (now (best .entry)) (now (y .entry)) (now (plus .entry)) (now (w .entry)) b) Vector (now (v .entry)) r (six (now (u .exit)) (now (scratch .exit)) (now (best .entry)) (now (y .exit)) (now (plus .exit)) (now (w .entry)) b)) ⌝ }
 {
     let n1 = s.set.n1;
-    matrix_operations::take_into(v, scratch);
-    matrix_operations::multipliers_into(s.numbers.penalty, y, w, scratch, plus, n1);
+    vector_copies::take_into(v, scratch);
+    vector_updates::multipliers_into(s.numbers.penalty, y, w, scratch, plus, n1);
     let delta = matrix_operations::norm2_diff(plus, y, n1);
     let mut t = s;
     t.numbers.delta_y_norm_plus = delta;
@@ -90,7 +90,7 @@ pub fn on_project_y(s: Alm, v: &[f64], y: &mut [f64; 64]) -> AlmStepped
     requires { ⌜ (Ready s) × (s .phase ≡ AlmPhase.ProjectY) × (length (now v) ≡ s .set .n1) ⌝ }
     ensures { λ r. ⌜ ((b : LoopBoard) → Takes s (setY (now (y .entry)) b) Vector (now (v .entry)) r (setY (now (y .exit)) b)) ⌝ }
 {
-    matrix_operations::take_into(v, y);
+    vector_copies::take_into(v, y);
     inner_solve(s)
 }
 

@@ -126,7 +126,7 @@ fn first_point(
     let phase = s.phase;
     match phase {
         AlmPhase::Time => {}
-        AlmPhase::ProjectY => matrix_operations::give(y, first),
+        AlmPhase::ProjectY => vector_copies::give(y, first),
         AlmPhase::Inner => panoc_points::first_point(
             s.solve,
             first,
@@ -137,10 +137,10 @@ fn first_point(
             fpr,
             best,
         ),
-        AlmPhase::F1 => matrix_operations::give(best, first),
-        AlmPhase::ProjectC => matrix_operations::give(plus, first),
-        AlmPhase::F2 => matrix_operations::give(best, first),
-        AlmPhase::LastCost => matrix_operations::give(u, first),
+        AlmPhase::F1 => vector_copies::give(best, first),
+        AlmPhase::ProjectC => vector_copies::give(plus, first),
+        AlmPhase::F2 => vector_copies::give(best, first),
+        AlmPhase::LastCost => vector_copies::give(u, first),
         AlmPhase::Over => {}
     }
 }
@@ -153,7 +153,7 @@ fn inner_second_point(s: Alm, second: &mut [f64], u: &[f64; 64], y: &[f64; 64])
     if carries_xi(s.solve) {
         fill_xi(s.numbers.penalty, y, second);
     } else {
-        matrix_operations::give(u, second);
+        vector_copies::give(u, second);
     }
 }
 

@@ -154,7 +154,7 @@ pub fn start_in_place(
     let number = start_refusal(set, plan.len(), xi);
     let penalty = penalty_in(xi);
     if number == 0 {
-        matrix_operations::take_into(plan, u);
+        vector_copies::take_into(plan, u);
         multipliers_in(xi, y);
         multipliers_in(xi, plus);
         let s = first(set, penalty, set.max_outer_iterations - 1);
@@ -169,13 +169,13 @@ pub fn start_in_place(
 pub fn start(set: AlmSettings, u: &[f64], xi: &[f64]) -> AlmAnswered
     ensures { λ r. ⌜ Starts set (now (u .entry)) (now (xi .entry)) r ⌝ }
 {
-    let mut v = matrix_operations::zeros();
-    let mut y = matrix_operations::zeros();
-    let mut plus = matrix_operations::zeros();
+    let mut v = vector_copies::zeros();
+    let mut y = vector_copies::zeros();
+    let mut plus = vector_copies::zeros();
     let r = start_in_place(set, u, xi, &mut v, &mut y, &mut plus);
     let outcome = r.outcome;
     let alm = r.alm;
-    let zeros = matrix_operations::zeros();
+    let zeros = vector_copies::zeros();
     let run = AlmRun {
         alm,
         u: v,

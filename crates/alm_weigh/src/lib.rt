@@ -142,7 +142,7 @@ pub fn weigh(
 {
     let n = s.set.n;
     let status = s.status;
-    matrix_operations::copy_into(best, u, n);
+    vector_copies::copy_into(best, u, n);
     if is_exit_criterion_satisfied(s) {
         let t = counted(s, s.numbers.penalty, s.numbers.akkt_tolerance);
         conclude(t, status)
@@ -150,7 +150,7 @@ pub fn weigh(
         let n1 = s.set.n1;
         let penalty = update_penalty_parameter(s);
         let akkt = update_inner_akkt_tolerance(s);
-        matrix_operations::copy_into(plus, y, n1);
+        vector_copies::copy_into(plus, y, n1);
         let t = counted(s, penalty, akkt);
         next_iteration(t, status)
     }

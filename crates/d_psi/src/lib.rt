@@ -48,8 +48,8 @@ fn add_product(c: f64, v: &[f64], gradient: &mut [f64; 64], work: &mut [f64; 64]
     requires { ⌜ (n ≤ 64) × (length (now v) ≡ n) ⌝ }
     ensures { λ _. ⌜ firsts n (now (gradient .exit)) ≡ plusTimes binary64 c (firsts n (now (gradient .entry))) (now (v .entry)) ⌝ }
 {
-    matrix_operations::take_into(v, work);
-    matrix_operations::add_times(c, work, gradient, n);
+    vector_copies::take_into(v, work);
+    vector_updates::add_times(c, work, gradient, n);
 }
 
 // The part of F1 is in the gradient: F2, or the end where there is none.
@@ -69,7 +69,7 @@ fn on_gradient(s: DPsiState, v: &[f64], gradient: &mut [f64; 64]) -> DPsiStepped
     requires { ⌜ (Sound (s .sizes)) × (s .phase ≡ DPsiPhase.Gradient) × (length (now v) ≡ s .sizes .n) ⌝ }
     ensures { λ r. ⌜ ((b : DPsiBoard) → DPsiTakes s (dPsiG (now (gradient .entry)) b) Reply.Vector (now (v .entry)) r (dPsiG (now (gradient .exit)) b)) ⌝ }
 {
-    matrix_operations::take_into(v, gradient);
+    vector_copies::take_into(v, gradient);
     if s.sizes.n1 == 0 {
         ask_f2(s)
     } else {
@@ -90,8 +90,8 @@ fn on_f1(
 {
     let n1 = s.sizes.n1;
     let scale = divisor(s.c);
-    matrix_operations::take_into(v, work);
-    matrix_operations::plus_over_into(scale, work, y, t, n1);
+    vector_copies::take_into(v, work);
+    vector_updates::plus_over_into(scale, work, y, t, n1);
     to(
         s,
         DPsiPhase::ProjectC,
@@ -111,8 +111,8 @@ fn on_project_c(
     ensures { λ r. ⌜ ((b : DPsiBoard) → DPsiTakes s (dPsiTDW (now (t .entry)) (now (d .entry)) (now (work .entry)) b) Reply.Vector (now (v .entry)) r (dPsiTDW (now (t .entry)) (now (d .exit)) (now (work .exit)) b)) ⌝ }
 {
     let n1 = s.sizes.n1;
-    matrix_operations::take_into(v, work);
-    matrix_operations::minus_into(t, work, d, n1);
+    vector_copies::take_into(v, work);
+    vector_updates::minus_into(t, work, d, n1);
     to(s, DPsiPhase::Jf1t, DPsiOutcome::Asked(PsiQuestion::Jf1t))
 }
 
@@ -131,7 +131,7 @@ fn on_f2(s: DPsiState, v: &[f64], d: &mut [f64; 64]) -> DPsiStepped
     requires { ⌜ (Sound (s .sizes)) × (s .phase ≡ DPsiPhase.F2) × (length (now v) ≡ s .sizes .n2) ⌝ }
     ensures { λ r. ⌜ ((b : DPsiBoard) → DPsiTakes s (dPsiD (now (d .entry)) b) Reply.Vector (now (v .entry)) r (dPsiD (now (d .exit)) b)) ⌝ }
 {
-    matrix_operations::take_into(v, d);
+    vector_copies::take_into(v, d);
     to(s, DPsiPhase::Jf2t, DPsiOutcome::Asked(PsiQuestion::Jf2t))
 }
 
@@ -220,7 +220,7 @@ fn hand_out(o: DPsiOutcome, gradient: &[f64; 64], result: &mut [f64])
     ensures { λ _. ⌜ now (result .exit) ≡ given o (firsts (length (now (result .entry))) (now (gradient .entry))) (now (result .entry)) ⌝ }
 {
     match o {
-        DPsiOutcome::Ended => matrix_operations::give(gradient, result),
+        DPsiOutcome::Ended => vector_copies::give(gradient, result),
         DPsiOutcome::Asked(_) => {}
         DPsiOutcome::Refused(_) => {}
         DPsiOutcome::Failed(_) => {}

@@ -60,7 +60,7 @@ pub extern "C" fn pozkerrin_inner_answer(
         best,
     );
     if r == 1 {
-        matrix_operations::give(best, plan);
+        vector_copies::give(best, plan);
     }
     r
 }

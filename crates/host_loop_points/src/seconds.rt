@@ -9,7 +9,7 @@ use alm_calls::lent::fill_xi;
 use alm_points::carries_xi_at;
 use alm_points::xi_places;
 use image::kinds::phase_of;
-use matrix_operations::give;
+use vector_copies::give;
 use panoc_points::second_places_at;
 
 // How many places the second point of the question has.

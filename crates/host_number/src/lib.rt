@@ -34,7 +34,7 @@ pub extern "C" fn pozkerrin_inner_number(
     }
     let r = on_number(x, w, k, f, u, gradient, step, half, fpr);
     if r == 1 {
-        matrix_operations::give(best, plan);
+        vector_copies::give(best, plan);
     }
     r
 }

@@ -50,7 +50,7 @@ pub extern "C" fn pozkerrin_inner_vector(
         best,
     );
     if r == 1 {
-        matrix_operations::give(best, plan);
+        vector_copies::give(best, plan);
     }
     r
 }

@@ -186,7 +186,7 @@ pub fn cache_previous_gradient(
     if done == 0 {
         return;
     }
-    matrix_operations::copy_into(gradient, previous, n);
+    vector_copies::copy_into(gradient, previous, n);
 }
 
 // Scores the half step, of this norm, and gives the least norm: it is kept only if its norm is strictly less than the least so far.
@@ -201,7 +201,7 @@ pub fn cache_best_half_step(
     ensures { λ r. ⌜ bestAt n (now (best .exit)) r ≡ keep (bestAt n (now (best .entry)) least) (firsts n (now (half .entry))) norm ⌝ }
 {
     if norm < least {
-        matrix_operations::copy_into(half, best, n);
+        vector_copies::copy_into(half, best, n);
         norm
     } else {
         least

@@ -55,7 +55,7 @@ pub fn update_lipschitz_constant(
     if exceeds(f[7], f[1], cost) {
         let lipschitz = f[1] * 2.0;
         let gamma = f[2] / 2.0;
-        matrix_operations::less_times_into(u, gamma, gradient, step, k[3]);
+        vector_updates::less_times_into(u, gamma, gradient, step, k[3]);
         put_gammas(lipschitz, gamma, f[3], f);
         put_rounds(rounds - 1, k);
         return ask(6, 2, w);
@@ -97,7 +97,7 @@ pub fn on_doubled_project(
     requires { ⌜ (Sound (solveOf (now w) (now k) (now f))) × (phaseOf (getD (now w) 0 0) ≡ Phase.DoubledProject) × (length (now v) ≡ getD (now k) 3 0) ⌝ }
     ensures { λ r. ⌜ ((b : Board) → Takes (solveOf (now (w .entry)) (now (k .entry)) (now (f .entry))) (setHalf (now (half .entry)) b) Reply.Vector (now (v .entry)) (stepOf r (now (w .exit)) (now (k .entry)) (now (f .entry))) (setHalf (now (half .exit)) b)) ⌝ }
 {
-    matrix_operations::take_into(v, half);
+    vector_copies::take_into(v, half);
     ask(7, 0, w)
 }
 
@@ -117,7 +117,7 @@ pub fn on_doubled_cost(
     ensures { λ r. ⌜ ((b : Board) → Takes (solveOf (now (w .entry)) (now (k .entry)) (now (f .entry))) (setU (now (u .entry)) (setGradient (now (gradient .entry)) (setStep (now (step .entry)) (setHalf (now (half .entry)) (setFpr (now (fpr .entry)) b))))) (Reply.Number x) [] (stepOf r (now (w .exit)) (now (k .exit)) (now (f .exit))) (setU (now (u .entry)) (setGradient (now (gradient .entry)) (setStep (now (step .exit)) (setHalf (now (half .entry)) (setFpr (now (fpr .exit)) b)))))) ⌝ }
 {
     if numeric::is_finite(x) {
-        let sums = matrix_operations::residual_into(u, half, gradient, fpr, k[3]);
+        let sums = residual_sums::residual_into(u, half, gradient, fpr, k[3]);
         let rhs = lipschitz_check_rhs(f[0], f[2], sums.norm, sums.product);
         put_norms(sums.norm, f[5], f);
         put_search(f[6], rhs, f);

@@ -36,8 +36,8 @@ pub fn on_gradient(
     requires { ⌜ (Sound (solveOf (now w) (now k) (now f))) × (phaseOf (getD (now w) 0 0) ≡ Phase.Gradient) × (length (now v) ≡ getD (now k) 3 0) ⌝ }
     ensures { λ r. ⌜ ((b : Board) → Takes (solveOf (now (w .entry)) (now (k .entry)) (now (f .entry))) (setU (now (u .entry)) b) Reply.Vector (now (v .entry)) (stepOf r (now (w .exit)) (now (k .entry)) (now (f .exit))) (setU (now (u .exit)) (setGradient (now (gradient .exit)) b))) ⌝ }
 {
-    matrix_operations::take_into(v, gradient);
-    let norm_h = matrix_operations::shift_into(u, k[3]);
+    vector_copies::take_into(v, gradient);
+    let norm_h = point_updates::shift_into(u, k[3]);
     put_norm_h(norm_h, f);
     ask(3, 1, w)
 }
@@ -57,12 +57,12 @@ pub fn on_shifted(
 {
     let n = k[3];
     if both_finite(f[0], gradient, n) {
-        matrix_operations::take_into(v, step);
+        vector_copies::take_into(v, step);
         let change = matrix_operations::norm2_diff(step, gradient, n);
         let lipschitz = change / f[8];
         let gamma = gamma_of(lipschitz);
         let sigma = sigma_of(gamma);
-        matrix_operations::less_times_into(u, gamma, gradient, step, n);
+        vector_updates::less_times_into(u, gamma, gradient, step, n);
         put_gammas(lipschitz, gamma, sigma, f);
         ask(4, 2, w)
     } else {

@@ -29,7 +29,7 @@ pub fn on_direction(
     ensures { λ r. ⌜ ((b : Board) → Takes (solveOf (now (w .entry)) (now (k .entry)) (now (f .entry))) (seven (now (u .entry)) (now (plus .entry)) (now (gradient .entry)) (now (step .entry)) (now (half .entry)) (now (fpr .entry)) (now (direction .entry)) b) Reply.Vector (now (v .entry)) (stepOf r (now (w .exit)) (now (k .exit)) (now (f .exit))) (seven (now (u .exit)) (now (plus .exit)) (now (gradient .entry)) (now (step .entry)) (now (half .entry)) (now (fpr .entry)) (now (direction .exit)) b)) ⌝ }
 {
     if k[1] == 0 {
-        matrix_operations::copy_into(half, u, k[3]);
+        vector_copies::copy_into(half, u, k[3]);
         ask(9, 0, w)
     } else {
         linesearch(v, w, k, f, u, plus, gradient, step, half, fpr, direction)
@@ -58,7 +58,7 @@ pub fn on_first_gradient(
     requires { ⌜ (Sound (solveOf (now w) (now k) (now f))) × (phaseOf (getD (now w) 0 0) ≡ Phase.FirstGradient) × (length (now v) ≡ getD (now k) 3 0) ⌝ }
     ensures { λ r. ⌜ ((b : Board) → Takes (solveOf (now (w .entry)) (now (k .entry)) (now (f .entry))) (setU (now (u .entry)) (setGradient (now (gradient .entry)) (setStep (now (step .entry)) b))) Reply.Vector (now (v .entry)) (stepOf r (now (w .exit)) (now (k .entry)) (now (f .entry))) (setU (now (u .entry)) (setGradient (now (gradient .exit)) (setStep (now (step .exit)) b)))) ⌝ }
 {
-    let finite = matrix_operations::gradient_into(v, f[2], u, gradient, step);
+    let finite = point_updates::gradient_into(v, f[2], u, gradient, step);
     if finite & numeric::is_finite(f[0]) {
         ask(11, 2, w)
     } else {

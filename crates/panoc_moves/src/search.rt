@@ -36,7 +36,7 @@ pub fn linesearch(
     requires { ⌜ (Sound (solveOf (now w) (now k) (now f))) × (length (now v) ≡ getD (now k) 3 0) ⌝ }
     ensures { λ r. ⌜ ((b : Board) → Comes ((solveOf (now (w .entry)) (now (k .entry)) (now (f .entry))) .set) (I.search binary64 (setOf (solveOf (now (w .entry)) (now (k .entry)) (now (f .entry)))) (endOf (solveOf (now (w .entry)) (now (k .entry)) (now (f .entry)))) (nextAt (solveOf (now (w .entry)) (now (k .entry)) (now (f .entry)))) (stateAt (solveOf (now (w .entry)) (now (k .entry)) (now (f .entry))) (seven (now (u .entry)) (now (plus .entry)) (now (gradient .entry)) (now (step .entry)) (now (half .entry)) (now (fpr .entry)) (now (direction .entry)) b)) (now (v .entry))) (stepOf r (now (w .exit)) (now (k .exit)) (now (f .exit))) (seven (now (u .entry)) (now (plus .exit)) (now (gradient .entry)) (now (step .entry)) (now (half .entry)) (now (fpr .entry)) (now (direction .exit)) b)) ⌝ }
 {
-    let sums = matrix_operations::line_into(v, u, fpr, gradient, step, half, direction, plus);
+    let sums = line_sums::line_into(v, u, fpr, gradient, step, half, direction, plus);
     let value = envelope(f[0], f[2], sums.gradient_squared, sums.distance_squared);
     let rhs = value - f[3] * f[4] * f[4];
     put_search(1.0, rhs, f);
@@ -66,7 +66,7 @@ pub fn on_tried_gradient(
     requires { ⌜ (Sound (solveOf (now w) (now k) (now f))) × (phaseOf (getD (now w) 0 0) ≡ Phase.TriedGradient) × (length (now v) ≡ getD (now k) 3 0) ⌝ }
     ensures { λ r. ⌜ ((b : Board) → Takes (solveOf (now (w .entry)) (now (k .entry)) (now (f .entry))) (setPlus (now (plus .entry)) (setGradient (now (gradient .entry)) (setStep (now (step .entry)) b))) Reply.Vector (now (v .entry)) (stepOf r (now (w .exit)) (now (k .entry)) (now (f .entry))) (setPlus (now (plus .entry)) (setGradient (now (gradient .exit)) (setStep (now (step .exit)) b)))) ⌝ }
 {
-    let finite = matrix_operations::gradient_into(v, f[2], plus, gradient, step);
+    let finite = point_updates::gradient_into(v, f[2], plus, gradient, step);
     if finite & numeric::is_finite(f[0]) {
         ask(14, 2, w)
     } else {
@@ -95,7 +95,7 @@ pub fn try_again(
     ensures { λ r. ⌜ ((b : Board) → Comes ((solveOf (now (w .entry)) (now (k .entry)) (now (f .entry))) .set) (retryOf (runOf (solveOf (now (w .entry)) (now (k .entry)) (now (f .entry))) (setU (now (u .entry)) (setFpr (now (fpr .entry)) (setDirection (now (direction .entry)) b)))) (firsts (getD (now (k .entry)) 3 0) (now (plus .entry))) (stateAt (solveOf (now (w .entry)) (now (k .entry)) (now (f .entry))) (setU (now (u .entry)) (setFpr (now (fpr .entry)) (setDirection (now (direction .entry)) b))))) (stepOf r (now (w .exit)) (now (k .exit)) (now (f .exit))) (setU (now (u .entry)) (setPlus (now (plus .exit)) (setFpr (now (fpr .entry)) (setDirection (now (direction .entry)) b))))) ⌝ }
 {
     let tau = f[6] / 2.0;
-    matrix_operations::candidate_into(tau, u, fpr, direction, plus, k[3]);
+    point_updates::candidate_into(tau, u, fpr, direction, plus, k[3]);
     put_search(tau, f[7], f);
     put_rounds(k[2] - 1, k);
     ask(12, 0, w)

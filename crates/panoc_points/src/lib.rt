@@ -88,22 +88,22 @@ pub fn first_point(
 {
     let phase = s.phase;
     match phase {
-        Phase::Cost => matrix_operations::give(u, first),
-        Phase::Gradient => matrix_operations::give(u, first),
-        Phase::Shifted => matrix_operations::give(u, first),
-        Phase::Project => matrix_operations::give(step, first),
-        Phase::HalfCost => matrix_operations::give(half, first),
-        Phase::DoubledProject => matrix_operations::give(step, first),
-        Phase::DoubledCost => matrix_operations::give(half, first),
-        Phase::Direction => matrix_operations::give(fpr, first),
-        Phase::FirstCost => matrix_operations::give(u, first),
-        Phase::FirstGradient => matrix_operations::give(u, first),
-        Phase::FirstProject => matrix_operations::give(step, first),
-        Phase::TriedCost => matrix_operations::give(plus, first),
-        Phase::TriedGradient => matrix_operations::give(plus, first),
-        Phase::TriedProject => matrix_operations::give(step, first),
+        Phase::Cost => vector_copies::give(u, first),
+        Phase::Gradient => vector_copies::give(u, first),
+        Phase::Shifted => vector_copies::give(u, first),
+        Phase::Project => vector_copies::give(step, first),
+        Phase::HalfCost => vector_copies::give(half, first),
+        Phase::DoubledProject => vector_copies::give(step, first),
+        Phase::DoubledCost => vector_copies::give(half, first),
+        Phase::Direction => vector_copies::give(fpr, first),
+        Phase::FirstCost => vector_copies::give(u, first),
+        Phase::FirstGradient => vector_copies::give(u, first),
+        Phase::FirstProject => vector_copies::give(step, first),
+        Phase::TriedCost => vector_copies::give(plus, first),
+        Phase::TriedGradient => vector_copies::give(plus, first),
+        Phase::TriedProject => vector_copies::give(step, first),
         Phase::Time => {}
-        Phase::LastCost => matrix_operations::give(best, first),
+        Phase::LastCost => vector_copies::give(best, first),
         Phase::Over => {}
     }
 }
@@ -137,7 +137,7 @@ pub fn points_in_place(
             return 8;
         }
         first_point(s, first, u, plus, step, half, fpr, best);
-        matrix_operations::give(u, second);
+        vector_copies::give(u, second);
         0
     } else {
         6
@@ -164,7 +164,7 @@ pub fn hand_out(outcome: Outcome, best: &[f64; 64], plan: &mut [f64])
     ensures { λ _. ⌜ now (plan .exit) ≡ given outcome (firsts (length (now (plan .entry))) (now (best .entry))) (now (plan .entry)) ⌝ }
 {
     match outcome {
-        Outcome::Ended(_) => matrix_operations::give(best, plan),
+        Outcome::Ended(_) => vector_copies::give(best, plan),
         Outcome::Asked(_) => {}
         Outcome::Refused(_) => {}
         Outcome::Failed(_) => {}

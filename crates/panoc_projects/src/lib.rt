@@ -32,8 +32,8 @@ pub fn on_first_project(
     requires { ⌜ (Sound (solveOf (now w) (now k) (now f))) × (phaseOf (getD (now w) 0 0) ≡ Phase.FirstProject) × (length (now v) ≡ getD (now k) 3 0) ⌝ }
     ensures { λ r. ⌜ ((b : Board) → Takes (solveOf (now (w .entry)) (now (k .entry)) (now (f .entry))) (six (now (u .entry)) (now (gradient .entry)) (now (previous .entry)) (now (half .entry)) (now (fpr .entry)) (now (best .entry)) b) Reply.Vector (now (v .entry)) (stepOf r (now (w .exit)) (now (k .exit)) (now (f .exit))) (six (now (u .entry)) (now (gradient .entry)) (now (previous .exit)) (now (half .exit)) (now (fpr .exit)) (now (best .exit)) b)) ⌝ }
 {
-    matrix_operations::take_into(v, half);
-    let sums = matrix_operations::residual_into(u, half, gradient, fpr, k[3]);
+    vector_copies::take_into(v, half);
+    let sums = residual_sums::residual_into(u, half, gradient, fpr, k[3]);
     onward(
         sums.norm,
         sums.product,
@@ -67,7 +67,7 @@ pub fn take_candidate(
     requires { ⌜ (Sound (solveOf (now w) (now k) (now f))) × («norm_squared» ≡ squares binary64 (minus binary64 (firsts (getD (now k) 3 0) (now plus)) (firsts (getD (now k) 3 0) (now half)))) × (product ≡ dot binary64 (firsts (getD (now k) 3 0) (now gradient)) (minus binary64 (firsts (getD (now k) 3 0) (now plus)) (firsts (getD (now k) 3 0) (now half)))) ⌝ }
     ensures { λ r. ⌜ ((b : Board) → Comes ((solveOf (now (w .entry)) (now (k .entry)) (now (f .entry))) .set) (I.onward binary64 (setOf (solveOf (now (w .entry)) (now (k .entry)) (now (f .entry)))) (endOf (solveOf (now (w .entry)) (now (k .entry)) (now (f .entry)))) (nextAt (solveOf (now (w .entry)) (now (k .entry)) (now (f .entry)))) (withU (firsts (getD (now (k .entry)) 3 0) (now (plus .entry))) (iterateAt (solveOf (now (w .entry)) (now (k .entry)) (now (f .entry))) (six (now (u .entry)) (now (gradient .entry)) (now (previous .entry)) (now (half .entry)) (now (fpr .entry)) (now (best .entry)) b)))) (stepOf r (now (w .exit)) (now (k .exit)) (now (f .exit))) (six (now (u .exit)) (now (gradient .entry)) (now (previous .exit)) (now (half .entry)) (now (fpr .exit)) (now (best .exit)) b)) ⌝ }
 {
-    matrix_operations::adopt_into(plus, half, u, fpr, k[3]);
+    residual_sums::adopt_into(plus, half, u, fpr, k[3]);
     let norm = numeric::sqrt(norm_squared);
     onward(
         norm,
@@ -103,7 +103,7 @@ pub fn on_tried_project(
     requires { ⌜ (Sound (solveOf (now w) (now k) (now f))) × (phaseOf (getD (now w) 0 0) ≡ Phase.TriedProject) × (length (now v) ≡ getD (now k) 3 0) ⌝ }
     ensures { λ r. ⌜ Takes (solveOf (now (w .entry)) (now (k .entry)) (now (f .entry))) (nine (now (u .entry)) (now (plus .entry)) (now (gradient .entry)) (now (previous .entry)) (now (step .entry)) (now (half .entry)) (now (fpr .entry)) (now (direction .entry)) (now (best .entry))) Reply.Vector (now (v .entry)) (stepOf r (now (w .exit)) (now (k .exit)) (now (f .exit))) (nine (now (u .exit)) (now (plus .exit)) (now (gradient .entry)) (now (previous .exit)) (now (step .entry)) (now (half .exit)) (now (fpr .exit)) (now (direction .entry)) (now (best .exit))) ⌝ }
 {
-    let sums = matrix_operations::candidate_sums_into(v, gradient, step, plus, half);
+    let sums = line_sums::candidate_sums_into(v, gradient, step, plus, half);
     let value = envelope(f[0], f[2], sums.gradient_squared, sums.distance_squared);
     if worse(f[7], value, k[2]) {
         try_again(w, k, f, u, plus, fpr, direction)

@@ -86,7 +86,7 @@ pub fn start_in_place(set: Settings, first: &[f64], u: &mut [f64; 64]) -> Steppe
     let number = start_refusal(set, first.len());
     let solve = begin(set);
     if number == 0 {
-        matrix_operations::take_into(first, u);
+        vector_copies::take_into(first, u);
         Stepped {
             outcome: Outcome::Asked(Question::Cost),
             solve,
@@ -100,11 +100,11 @@ pub fn start_in_place(set: Settings, first: &[f64], u: &mut [f64; 64]) -> Steppe
 pub fn start(set: Settings, u: &[f64]) -> Answered
     ensures { λ r. ⌜ Starts set (now (u .entry)) r ⌝ }
 {
-    let mut v = matrix_operations::zeros();
+    let mut v = vector_copies::zeros();
     let r = start_in_place(set, u, &mut v);
     let outcome = r.outcome;
     let solve = r.solve;
-    let zeros = matrix_operations::zeros();
+    let zeros = vector_copies::zeros();
     let run = Run {
         solve,
         u: v,

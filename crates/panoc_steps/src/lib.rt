@@ -29,7 +29,7 @@ pub fn timed(
     requires { ⌜ Sound (solveOf (now w) (now k) (now f)) ⌝ }
     ensures { λ r. ⌜ ((b : Board) → Times (solveOf (now (w .entry)) (now (k .entry)) (now (f .entry))) «in_time» (six (now (u .entry)) (now (gradient .entry)) (now (previous .entry)) (now (half .entry)) (now (fpr .entry)) (now (best .entry)) b) (stepOf r (now (w .exit)) (now (k .entry)) (now (f .exit))) (six (now (u .entry)) (now (gradient .entry)) (now (previous .exit)) (now (half .entry)) (now (fpr .exit)) (now (best .exit)) b)) ⌝ }
 {
-    let sums = matrix_operations::residual_into(u, half, gradient, fpr, k[3]);
+    let sums = residual_sums::residual_into(u, half, gradient, fpr, k[3]);
     put_status(standing(k[0], in_time), w);
     step(
         sums.norm,
@@ -141,11 +141,11 @@ pub fn on_project(
     requires { ⌜ (Sound (solveOf (now w) (now k) (now f))) × (phaseOf (getD (now w) 0 0) ≡ Phase.Project) × (length (now v) ≡ getD (now k) 3 0) ⌝ }
     ensures { λ r. ⌜ ((b : Board) → Takes (solveOf (now (w .entry)) (now (k .entry)) (now (f .entry))) (six (now (u .entry)) (now (gradient .entry)) (now (previous .entry)) (now (half .entry)) (now (fpr .entry)) (now (best .entry)) b) Reply.Vector (now (v .entry)) (stepOf r (now (w .exit)) (now (k .exit)) (now (f .exit))) (six (now (u .entry)) (now (gradient .entry)) (now (previous .exit)) (now (half .exit)) (now (fpr .exit)) (now (best .exit)) b)) ⌝ }
 {
-    matrix_operations::take_into(v, half);
-    matrix_operations::zero_into(previous);
-    matrix_operations::zero_into(best);
-    let sums = matrix_operations::residual_into(u, half, gradient, fpr, k[3]);
-    put_norms(f[4], matrix_operations::infinity(), f);
+    vector_copies::take_into(v, half);
+    vector_copies::zero_into(previous);
+    vector_copies::zero_into(best);
+    let sums = residual_sums::residual_into(u, half, gradient, fpr, k[3]);
+    put_norms(f[4], vector_copies::infinity(), f);
     put_steps(k[4], 0, k);
     put_status(0, w);
     step(

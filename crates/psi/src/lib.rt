@@ -90,8 +90,8 @@ fn on_f1(
 {
     let n1 = s.sizes.n1;
     let scale = divisor(s.c);
-    matrix_operations::take_into(v, work);
-    matrix_operations::plus_over_into(scale, work, y, t, n1);
+    vector_copies::take_into(v, work);
+    vector_updates::plus_over_into(scale, work, y, t, n1);
     to(
         s,
         PsiPhase::ProjectC,
@@ -105,7 +105,7 @@ fn on_project_c(s: PsiState, v: &[f64], t: &[f64; 64], work: &mut [f64; 64]) -> 
     ensures { λ r. ⌜ ((b : PsiBoard) → PsiTakes s (psiTW (now (t .entry)) (now (work .entry)) b) Reply.Vector (now (v .entry)) r (psiTW (now (t .entry)) (now (work .exit)) b)) ⌝ }
 {
     let n1 = s.sizes.n1;
-    matrix_operations::take_into(v, work);
+    vector_copies::take_into(v, work);
     let distance = matrix_operations::norm2_squared_diff(t, work, n1);
     let value = penalized(s.value, s.c, distance);
     let mut p = s;
@@ -119,7 +119,7 @@ fn on_f2(s: PsiState, v: &[f64], work: &mut [f64; 64]) -> PsiStepped
     ensures { λ r. ⌜ ((b : PsiBoard) → PsiTakes s (psiW (now (work .entry)) b) Reply.Vector (now (v .entry)) r (psiW (now (work .exit)) b)) ⌝ }
 {
     let n2 = s.sizes.n2;
-    matrix_operations::take_into(v, work);
+    vector_copies::take_into(v, work);
     let norm = matrix_operations::norm2_squared(work, n2);
     let value = penalized(s.value, s.c, norm);
     to(s, PsiPhase::Over, PsiOutcome::Ended(value))

@@ -3,27 +3,17 @@ ghost use mathlib.Core.List.{List};
 ghost use Prim.Native.Nat.{ℕ};
 ghost use lib.ListN.{length};
 ghost use lib.Ieee.{Float};
-ghost use Rattle.script.specs.Fields.{leftAt};
-ghost use Rattle.script.specs.Lines.{Says, plain, closed, numberLine, vectorLine, failureLine, lendLine};
-use crate::command::Command;
-use crate::command::Given;
-use crate::command::Said;
-use crate::fields::code_at;
-use crate::fields::ended;
-use crate::fields::float_at;
-use crate::fields::floats_at;
-use crate::fields::whole_at;
-
-// A command without floats.
-pub fn alone(command: Command) -> Said
-    ensures { λ r. ⌜ ((xs ys : List Float) → Says (plain command) r xs ys) ⌝ }
-{
-    Said {
-        command,
-        first: 0,
-        second: 0,
-    }
-}
+ghost use Rattle.line_fields.specs.Fields.{leftAt};
+ghost use Rattle.line_starts.specs.Lines.{Says, plain, closed, numberLine, vectorLine, failureLine, lendLine};
+use line_fields::code_at;
+use line_fields::ended;
+use line_fields::float_at;
+use line_fields::floats_at;
+use line_fields::whole_at;
+use line_starts::alone;
+use line_starts::command::Command;
+use line_starts::command::Given;
+use line_starts::command::Said;
 
 // A command without further fields.
 pub fn bare(line: &[u8], at: usize, command: Command) -> Said

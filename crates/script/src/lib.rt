@@ -1,28 +1,24 @@
 // What a line of a script says: TRANSCRIPT.md, "Calls that start a run" and "Calls that answer".
 mod answers;
-pub mod command;
-mod fields;
-mod keywords;
-mod starts;
 
 ghost use lib.ListN.{length};
-ghost use Rattle.script.specs.Lines.{Says, meant};
-use answers::alone;
+ghost use Rattle.line_starts.specs.Lines.{Says, meant};
 use answers::bare;
 use answers::failure;
 use answers::lend;
 use answers::number;
 use answers::vector;
-use command::Command;
-use command::Given;
-use command::Said;
 use keywords::Keyword;
 use keywords::begins;
-use starts::d_psi;
-use starts::inner;
-use starts::outer;
-use starts::psi;
-use words::splitting::word;
+use line_starts::alone;
+use line_starts::command::Command;
+use line_starts::command::Given;
+use line_starts::command::Said;
+use line_starts::d_psi;
+use line_starts::inner;
+use line_starts::outer;
+use line_starts::psi;
+use words::word;
 
 // What a line says; the floats go into the lent slices, which have as many places as may be lent.
 pub fn said(line: &[u8], first: &mut [f64], second: &mut [f64]) -> Said

@@ -121,5 +121,5 @@ pub fn multipliers_in(xi: &[f64], y: &mut [f64; 64])
     if xi.len() == 0 {
         return;
     }
-    matrix_operations::take_into(&xi[1..], y);
+    vector_copies::take_into(&xi[1..], y);
 }

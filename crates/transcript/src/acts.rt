@@ -18,8 +18,8 @@ use crate::starts::inner_settings;
 use crate::starts::loop_settings;
 use crate::starts::psi_sizes;
 use crate::starts::reply;
-use script::command::Command;
-use words::printing::put_word;
+use line_starts::command::Command;
+use word_printing::put_word;
 
 // What is lent after lend: psi lends nothing, d_psi its result alone.
 fn relent(s: Session, us: usize, xis: usize, u: &mut [f64], xi: &mut [f64]) -> Lent {

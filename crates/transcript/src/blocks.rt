@@ -8,7 +8,7 @@ use crate::session::Session;
 use crate::session::begin;
 use libc::STDIN_FILENO;
 use libc::STDOUT_FILENO;
-use words::printing::put_word;
+use word_printing::put_word;
 
 // A line has no more bytes.
 const LONGEST: usize = 4096;

@@ -17,7 +17,7 @@ use factory::alm_factory::DPsiRun;
 use factory::alm_factory::PsiQuestion;
 use factory::alm_factory::Sizes;
 use panoc_core::panoc_cache::Reply;
-use words::printing::put_word;
+use word_printing::put_word;
 
 // A run, with the place behind what was printed.
 pub struct DPsiLine {

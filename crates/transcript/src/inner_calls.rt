@@ -7,6 +7,8 @@ use crate::output::places;
 use crate::output::put_end;
 use crate::output::put_failed;
 use crate::output::put_refused;
+use line_printing::put_floats;
+use line_printing::put_point;
 use panoc::panoc_optimizer::answer;
 use panoc_core::panoc_cache::Outcome;
 use panoc_core::panoc_cache::Question;

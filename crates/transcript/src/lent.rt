@@ -2,8 +2,8 @@
 ghost use Prim.Native.Nat.{_+_, _*_, _≤_};
 ghost use lib.ListN.{length};
 use crate::output::least;
-use words::printing::put_counted;
-use words::printing::put_point;
+use line_printing::put_counted;
+use line_printing::put_point;
 
 // How many places of u and of xi are lent.
 pub struct Lent {

@@ -7,8 +7,8 @@ use crate::output::least;
 use crate::session::Next;
 use crate::session::Session;
 use libc::STDOUT_FILENO;
-use script::command::Command;
-use script::command::Said;
+use line_starts::command::Command;
+use line_starts::command::Said;
 use script::said;
 
 // Where the line that begins at a place ends: at its newline, or where the bytes do.

@@ -21,10 +21,7 @@ use alm_points::second_places;
 use alm_starts::start;
 use panoc_core::panoc_cache::Question;
 use panoc_core::panoc_cache::Reply;
-use words::printing::put_counted;
-use words::printing::put_floats;
-use words::printing::put_point;
-use words::printing::put_word;
+use word_printing::put_word;
 
 // A run, with the place behind what was printed.
 pub struct LoopLine {

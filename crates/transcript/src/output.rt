@@ -2,8 +2,8 @@
 ghost use mathlib.Core.Path.{_≡_};
 ghost use Prim.Native.Nat.{_+_, _≤_};
 ghost use lib.ListN.{length};
+use line_printing::put_counted;
 use panoc_core::panoc_cache::ExitStatus;
-use words::printing::put_counted;
 
 // The smaller of two.
 pub fn least(a: usize, b: usize) -> usize

@@ -10,6 +10,7 @@ use factory::alm_factory::PsiOutcome;
 use factory::alm_factory::PsiQuestion;
 use factory::alm_factory::PsiRun;
 use factory::alm_factory::Sizes;
+use line_printing::put_point;
 use panoc_core::panoc_cache::Reply;
 use psi::answer;
 use psi_points::points;

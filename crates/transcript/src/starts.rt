@@ -1,14 +1,14 @@
 // What a line says, as the engine takes it.
 use alm_core::alm_cache::AlmSettings;
 use factory::alm_factory::Sizes;
+use line_starts::command::Given;
+use line_starts::command::InnerStart;
+use line_starts::command::LoopStart;
+use line_starts::command::PsiStart;
 use panoc_core::panoc_cache::AkktTolerance;
 use panoc_core::panoc_cache::Reply;
 use panoc_core::panoc_cache::Settings;
-use script::command::Given;
-use script::command::InnerStart;
-use script::command::LoopStart;
-use script::command::PsiStart;
-use words::reading::Tolerance;
+use word_values::Tolerance;
 
 // The AKKT tolerance of an inner solve.
 fn akkt(t: Tolerance) -> AkktTolerance {

@@ -1,12 +1,2 @@
-pub mod Digits
-pub mod Reading
-pub mod Printing
 pub mod Splitting
-pub mod Values
-pub mod Floats
-pub mod Places
-pub mod Numerals
 pub mod Words
-pub mod Written
-pub mod Answers
-pub mod RoundTrip

@@ -17,8 +17,8 @@ pub fn place(
 {
     if first.len() == n {
         if second.len() == m {
-            matrix_operations::give(p, first);
-            matrix_operations::give(q, second);
+            vector_copies::give(p, first);
+            vector_copies::give(q, second);
             return 0;
         }
     }

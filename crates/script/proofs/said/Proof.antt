@@ -1,9 +1,9 @@
 -- `script::said` meets its contract: a line by its first word. Assumes nothing.
 use mathlib.Core.Path.{sym, _∙_}
 use lib.ListN.{length}
-use Rattle.script.specs.Lines.{lineBy}
-use Rattle.script.specs.declared.keywords.Keyword.{Keyword}
-use Rattle.script.specs.LineLaws.{said-by}
+use Rattle.line_starts.specs.Lines.{lineBy}
+use Rattle.keywords.specs.declared.Keyword.{Keyword}
+use Rattle.line_starts.specs.LineLaws.{said-by}
 use borrow.Author.Needs.{needs}
 use Rattle.script.proofs.said.Statement.{statement}
 use Rattle.script.proofs.said.Tie as tie

@@ -1,6 +1,6 @@
 -- `script::answers::bare` meets its contract: nothing is left, or something is. Assumes nothing.
 use mathlib.Core.Path.{sym, _∙_}
-use Rattle.script.specs.LineLaws.{says-closed, says-open}
+use Rattle.line_starts.specs.LineLaws.{says-closed, says-open}
 use borrow.Author.Needs.{needs}
 use Rattle.script.proofs.answers.bare.Statement.{statement}
 use Rattle.script.proofs.answers.bare.Tie as tie

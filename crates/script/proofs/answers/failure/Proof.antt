@@ -1,6 +1,6 @@
 -- `script::answers::failure` meets its contract: by its one field. Assumes nothing.
-use Rattle.script.specs.Fields.{leftAt}
-use Rattle.script.specs.LineLaws.{says-failure}
+use Rattle.line_fields.specs.Fields.{leftAt}
+use Rattle.line_starts.specs.LineLaws.{says-failure}
 use borrow.Author.Needs.{needs}
 use Rattle.script.proofs.answers.failure.Statement.{statement}
 use Rattle.script.proofs.answers.failure.Tie as tie

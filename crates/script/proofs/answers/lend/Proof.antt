@@ -1,6 +1,6 @@
 -- `script::answers::lend` meets its contract: by its two fields, each within its limit. Assumes nothing.
-use Rattle.script.specs.Fields.{leftAt}
-use Rattle.script.specs.LineLaws.{says-as, lend-over, lend-over-xi, lend-within}
+use Rattle.line_fields.specs.Fields.{leftAt}
+use Rattle.line_starts.specs.LineLaws.{says-as, lend-over, lend-over-xi, lend-within}
 use borrow.Author.Needs.{needs}
 use Rattle.script.proofs.answers.lend.Statement.{statement}
 use Rattle.script.proofs.answers.lend.Tie as tie

@@ -1,6 +1,6 @@
 -- `script::answers::number` meets its contract: by its one field. Assumes nothing.
-use Rattle.script.specs.Fields.{leftAt}
-use Rattle.script.specs.LineLaws.{says-number}
+use Rattle.line_fields.specs.Fields.{leftAt}
+use Rattle.line_starts.specs.LineLaws.{says-number}
 use borrow.Author.Needs.{needs}
 use Rattle.script.proofs.answers.number.Statement.{statement}
 use Rattle.script.proofs.answers.number.Tie as tie

@@ -1,8 +1,8 @@
 -- `script::answers::vector` meets its contract: by its floats, with nothing left. Assumes nothing.
 use mathlib.Core.Path.{sym, _∙_}
 use lib.ListN.{length}
-use Rattle.script.specs.Fields.{leftAt}
-use Rattle.script.specs.LineLaws.{says-as, vector-yes, vector-no}
+use Rattle.line_fields.specs.Fields.{leftAt}
+use Rattle.line_starts.specs.LineLaws.{says-as, vector-yes, vector-no}
 use borrow.Author.Needs.{needs}
 use Rattle.script.proofs.answers.vector.Statement.{statement}
 use Rattle.script.proofs.answers.vector.Tie as tie

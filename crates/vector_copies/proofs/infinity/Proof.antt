@@ -1,0 +1,16 @@
+-- `vector_copies::infinity` meets its contract: the pattern is that of infinity. Assumes nothing.
+use mathlib.Core.Path.{refl}
+use lib.Ieee.{nanBits, ofBits}
+use Rattle.vector_copies.proofs.infinity.Statement.{statement}
+use Rattle.vector_copies.proofs.infinity.Tie as tie
+
+float-from-bits-result : tie.Need-float-from-bits-result
+unfolding nanBits
+float-from-bits-result c = tt
+
+returns : tie.Need-returns
+unfolding ofBits
+returns c = refl
+
+pub infinity-spec : {M : Type 1} → statement M
+infinity-spec = tie.close (tie.spec float-from-bits-result returns)

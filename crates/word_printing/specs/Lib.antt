@@ -1,0 +1,4 @@
+pub mod Printing
+pub mod Places
+pub mod Written
+pub mod RoundTrip
