@@ -1,6 +1,4 @@
 // What Rattle lacks on `f64`: square root, absolute value, larger of two, and the test for a finite number.
-mod square_root;
-
 ghost use mathlib.Core.Path.{_≡_};
 ghost use lib.Ieee.{binary64};
 ghost use lib.Ieee.Scale.{finite};

@@ -1,11 +1,11 @@
--- `numeric::square_root::root_bits` meets its contract (`proofs/Scaling.antt`). The loop keeps the number's size; the measure is j. Assumes nothing.
+-- `square_root::root_bits` meets its contract (`proofs/Scaling.antt`). The loop keeps the number's size; the measure is j. Assumes nothing.
 use Prim.Native.Nat.{_^_, _≤_, _<_}
 use native.Mathlib.Omega.{arith}
 use lib.Ieee.{binary64}
 use Rattle.ieee.specs.Patterns.{Sized}
-use Rattle.numeric.proofs.Scaling.{j-pos, sized-again, near-hi, finish, no-nan-bits}
-use Rattle.numeric.proofs.square_root.root_bits.Statement.{statement}
-use Rattle.numeric.proofs.square_root.root_bits.Tie as tie
+use Rattle.square_root.proofs.Scaling.{j-pos, sized-again, near-hi, finish, no-nan-bits}
+use Rattle.square_root.proofs.root_bits.Statement.{statement}
+use Rattle.square_root.proofs.root_bits.Tie as tie
 
 abbrev Inv-loop : tie.InvT-loop
 Inv-loop b m₀ j₀ m j = (m < 18014398509481983) × (j ≤ 1532) × Sized binary64 b m j

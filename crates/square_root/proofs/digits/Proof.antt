@@ -1,11 +1,11 @@
--- `numeric::square_root::digits` meets its contract. The invariant of its loop is `Taken` (`proofs/Turns.antt`), and the measure the turns that are left. Assumes nothing.
+-- `square_root::digits` meets its contract. The invariant of its loop is `Taken` (`proofs/Turns.antt`), and the measure the turns that are left. Assumes nothing.
 use mathlib.Core.Path.{_≡_, sym, subst, subst₂}
 use mathlib.Core.Logic.{⊎-elim}
 use Prim.Native.Nat.{ℕ, _+_, _-_, _*_, _%_, _^_, _≤_, _<_}
 use native.Mathlib.Omega.{arith}
-use Rattle.numeric.proofs.Turns.{Taken, bound, turn-with, turn-without, last}
-use Rattle.numeric.proofs.square_root.digits.Statement.{statement}
-use Rattle.numeric.proofs.square_root.digits.Tie as tie
+use Rattle.square_root.proofs.Turns.{Taken, bound, turn-with, turn-without, last}
+use Rattle.square_root.proofs.digits.Statement.{statement}
+use Rattle.square_root.proofs.digits.Tie as tie
 
 abbrev Inv-loop : tie.InvT-loop
 Inv-loop m turns q₀ rem₀ rest₀ i₀ q rem rest i = (i ≤ turns) × Taken m q rem rest i

@@ -1,10 +1,10 @@
--- `numeric::square_root::parts` meets its contract (`proofs/Scaling.antt`). Assumes nothing.
+-- `square_root::parts` meets its contract (`proofs/Scaling.antt`). Assumes nothing.
 use native.Mathlib.Omega.{arith}
 use lib.Ieee.{binary64}
 use borrow.Author.Needs.{needs}
-use Rattle.numeric.proofs.Scaling.{sized-small, sized-odd, sized-even}
-use Rattle.numeric.proofs.square_root.parts.Statement.{statement}
-use Rattle.numeric.proofs.square_root.parts.Tie as tie
+use Rattle.square_root.proofs.Scaling.{sized-small, sized-odd, sized-even}
+use Rattle.square_root.proofs.parts.Statement.{statement}
+use Rattle.square_root.proofs.parts.Tie as tie
 
 returns : tie.Need-returns
 returns c = (omega arith, omega arith, sized-small binary64 (c .before .args .b) (c .if1 .taken))
