@@ -1,17 +1,16 @@
 // The multiplier loop; COST and GRADIENT are answered by psi and d_psi.
-use crate::kiln;
-use crate::penalty;
 use alm::alm_optimizer::answer;
+use alm_starts::start;
+use alm_points::points;
 use alm_core::alm_cache::AlmAnswered;
 use alm_core::alm_cache::AlmOptimizerStatus;
 use alm_core::alm_cache::AlmOutcome;
 use alm_core::alm_cache::AlmQuestion;
 use alm_core::alm_cache::AlmRun;
 use alm_core::alm_cache::AlmSettings;
-use alm_points::points;
-use alm_starts::start;
 use panoc_core::panoc_cache::Question;
 use panoc_core::panoc_cache::Reply;
+use penalty_by_hand::kiln;
 
 // The plan and the penalty with the multiplier that are lent.
 pub struct Places {
@@ -48,7 +47,7 @@ fn on_cost(run: AlmRun, plan: &mut [f64; 2], xi: &mut [f64; 2]) -> AlmAnswered {
     let u = p.plan;
     let at = p.xi;
     shown::two_points(b"cost", &u, b" xi", &at);
-    let x = penalty::value::play(u, at, false);
+    let x = penalty_by_hand::value::play(u, at, false);
     answer(run, Reply::Number(x), &u, plan, xi)
 }
 
@@ -57,7 +56,7 @@ fn on_gradient(run: AlmRun, plan: &mut [f64; 2], xi: &mut [f64; 2]) -> AlmAnswer
     let u = p.plan;
     let at = p.xi;
     shown::two_points(b"gradient", &u, b" xi", &at);
-    let v = penalty::slope::play(u, at, false);
+    let v = penalty_by_hand::slope::play(u, at, false);
     answer(run, Reply::Vector, &v, plan, xi)
 }
 

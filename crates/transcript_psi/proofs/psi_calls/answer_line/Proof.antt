@@ -1,0 +1,39 @@
+-- `transcript_psi::psi_calls::answer_line` meets its contract: the floats of the line and what is lent are within their slices. Assumes nothing.
+use native.Mathlib.Omega.{arith}
+use Rattle.transcript_lines.proofs.Laws.{firsts}
+use borrow.Author.Needs.{needs}
+use Rattle.transcript_psi.proofs.psi_calls.answer_line.Statement.{statement}
+use Rattle.transcript_psi.proofs.psi_calls.answer_line.Tie as tie
+
+slice-aggregate-answer-at : tie.Need-slice-aggregate-answer-at
+slice-aggregate-answer-at c = search needs
+
+answer-at-requires : tie.Need-answer-at-requires
+answer-at-requires c κs = search needs
+
+array-share-prefix-v : tie.Need-array-share-prefix-v
+array-share-prefix-v c = search needs
+
+slice-aggregate-answered : tie.Need-slice-aggregate-answered
+slice-aggregate-answered c = firsts _ _ (omega (arith, c .before .before .answer-at .ensures))
+
+answered-requires : tie.Need-answered-requires
+answered-requires c κs = search needs
+
+same-length : tie.Need-same-length
+same-length c = search needs
+
+returns : tie.Need-returns
+returns c = search needs
+
+pub answer-line-spec : {M : Type 1} → statement M
+answer-line-spec =
+    tie.close
+    (tie.spec
+    slice-aggregate-answer-at
+    answer-at-requires
+    array-share-prefix-v
+    slice-aggregate-answered
+    answered-requires
+    same-length
+    returns)
