@@ -1,3 +1,3 @@
-// The multiplier loop's steps in place: its records and the handlers of its questions. The public calls are in the crate alm.
+// The multiplier loop's records, and where an outer iteration begins. The public calls are in alm_starts, alm_points and alm.
 pub mod alm_cache;
 pub mod alm_steps;

@@ -9,9 +9,9 @@ use image_puts::note;
 use lent_loop::carry;
 use lent_loop::fits;
 use lent_loop::own_number;
-use panoc_answers::lent::on_number;
 use panoc_core::panoc_cache::Reply;
 use panoc_core::refusals::refusal;
+use panoc_numbers::on_number;
 
 // The number x for the question of a run; a plan and the multipliers go into the lent slices.
 #[no_mangle]

@@ -4,9 +4,9 @@ ghost use Rattle.panoc_core.specs.Board.{Board, runOf, gave, five, setBest};
 ghost use Rattle.panoc_core.specs.Calls.{Answers};
 ghost use Rattle.image.specs.Image.{solveOf, stepOf};
 use image_puts::note;
-use panoc_answers::lent::on_number;
 use panoc_core::panoc_cache::Reply;
 use panoc_core::refusals::refusal;
+use panoc_numbers::on_number;
 use panoc_wanted::wants_lent;
 
 // The number x for the question of a run; a plan goes into the lent slice.

@@ -6,12 +6,12 @@ ghost use Rattle.factory.specs.FactoryRest.{psiRest};
 ghost use Rattle.psi_image.specs.PsiImage.{replyOf, psiOf, psiStepOf};
 use factory::alm_factory::Sizes;
 use psi::answer_in_place;
-use psi_points::points_in_place;
-use psi_starts::start_in_place;
 use psi_image::kinds::reply_of;
 use psi_image::psi::keep_psi;
 use psi_image::psi::psi_of;
 use psi_image::psi::tell_psi;
+use psi_points::points_in_place;
+use psi_starts::start_in_place;
 
 // A run that is begun at the lent slices, or its refusal.
 #[no_mangle]

@@ -1,13 +1,13 @@
 // The multiplier loop; COST and GRADIENT are answered by psi and d_psi.
 use alm::alm_optimizer::answer;
-use alm_starts::start;
-use alm_points::points;
 use alm_core::alm_cache::AlmAnswered;
 use alm_core::alm_cache::AlmOptimizerStatus;
 use alm_core::alm_cache::AlmOutcome;
 use alm_core::alm_cache::AlmQuestion;
 use alm_core::alm_cache::AlmRun;
 use alm_core::alm_cache::AlmSettings;
+use alm_points::points;
+use alm_starts::start;
 use panoc_core::panoc_cache::Question;
 use panoc_core::panoc_cache::Reply;
 use penalty_by_hand::kiln;

@@ -1,2 +1,2 @@
-// PANOC as a run that asks and answers: document 01, "One inner solve". The records and the steps are those of panoc_core.
+// PANOC as a run that asks and answers: document 01, "One inner solve". The records are those of panoc_core.
 pub mod panoc_optimizer;

@@ -1,27 +1,20 @@
-// A step with its tests, and the end of a solve.
+// A step with its tests, and what follows the last.
 ghost use mathlib.Core.Path.{_≡_};
-ghost use mathlib.Core.List.{[]};
 ghost use Prim.Native.Nat.{_≤_};
 ghost use lib.Ieee.{Float, binary64};
 ghost use lib.ListN.{getD};
 ghost use Rattle.ieee.specs.Sums as N;
 ghost use Rattle.matrix_operations.specs.Firsts.{firsts};
-ghost use Rattle.model.specs.State as S;
 ghost use Rattle.model.specs.Vectors.{minus};
 ghost use Rattle.model.specs.Inner as I;
-ghost use Rattle.panoc_core.specs.Values.{exitStatus};
 ghost use Rattle.panoc_core.specs.Laws.{withNorms};
-ghost use Rattle.panoc_core.specs.Board.{Board, Sound, Takes, Residual, Finishes, Steps, setOf, stateAt, six, setU, setGradient, setPrevious, setHalf, setFpr, setBest};
-ghost use Rattle.image.specs.Image.{phaseOf, statusOf, solveOf, stepOf};
+ghost use Rattle.panoc_core.specs.Board.{Board, Sound, Residual, Finishes, Steps, setOf, stateAt, six, setU, setGradient, setPrevious, setHalf, setFpr, setBest};
+ghost use Rattle.image.specs.Image.{solveOf, stepOf};
 use image_puts::ask;
-use image_puts::move_to;
-use image_puts::note_end;
 use image_puts::put_norms;
 use image_puts::put_search;
 use image_puts::stop;
 use panoc_core::lipschitz_estimator::lipschitz_check_rhs;
-use panoc_core::panoc_cache::Phase;
-use panoc_core::panoc_cache::Reply;
 use panoc_core::panoc_cache::cache_best_half_step;
 use panoc_core::panoc_cache::cache_previous_gradient;
 
@@ -102,29 +95,5 @@ pub fn step(
         put_norms(norm, least, f);
         put_search(f[6], rhs, f);
         ask(5, 0, w)
-    }
-}
-
-// The number of the end that stands for a step after which left more may begin.
-pub fn standing(left: usize, in_time: bool) -> u32
-    ensures { λ r. ⌜ ((s : S.Settings) → statusOf r ≡ exitStatus (I.standing binary64 s left «in_time»)) ⌝ }
-{
-    if left == 0 {
-        return 1;
-    }
-    if in_time { 0 } else { 2 }
-}
-
-// The last COST is x; the plan stays in the best half step.
-pub fn on_last_cost(x: f64, w: &mut [u32; 6], k: &mut [usize; 6], f: &mut [f64; 13]) -> u32
-    requires { ⌜ (Sound (solveOf (now w) (now k) (now f))) × (phaseOf (getD (now w) 0 0) ≡ Phase.LastCost) ⌝ }
-    ensures { λ r. ⌜ ((b : Board) → Takes (solveOf (now (w .entry)) (now (k .entry)) (now (f .entry))) b (Reply.Number x) [] (stepOf r (now (w .exit)) (now (k .exit)) (now (f .exit))) b) ⌝ }
-{
-    if numeric::is_finite(x) {
-        note_end(k[1], f[5], x, k, f);
-        move_to(0, w[2], w);
-        1
-    } else {
-        stop(16, w)
     }
 }

@@ -8,11 +8,11 @@ pub mod printing;
 
 use calls::answer_line;
 use calls::start_line;
+use line_starts::command::Command;
+use line_starts::command::InnerStart;
 use panoc_core::panoc_cache::AkktTolerance;
 use panoc_core::panoc_cache::Run;
 use panoc_core::panoc_cache::Settings;
-use line_starts::command::Command;
-use line_starts::command::InnerStart;
 use transcript_lines::asides::Lends;
 use transcript_lines::asides::aside;
 use transcript_lines::lines::next;

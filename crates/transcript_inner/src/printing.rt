@@ -1,20 +1,20 @@
 // What is printed of a call of an inner solve.
 ghost use Prim.Native.Nat.{_+_, _*_, _≤_};
 ghost use lib.ListN.{length};
-use panoc_points::first_places;
-use panoc_points::points;
-use panoc_points::second_places;
+use line_printing::put_floats;
 use panoc_core::panoc_cache::Outcome;
 use panoc_core::panoc_cache::Question;
 use panoc_core::panoc_cache::Run;
 use panoc_core::panoc_cache::SolverStatus;
+use panoc_points::first_places;
+use panoc_points::points;
+use panoc_points::second_places;
 use transcript_lines::output::least;
 use transcript_lines::output::places;
 use transcript_lines::output::put_end;
 use transcript_lines::output::put_failed;
 use transcript_lines::output::put_question;
 use transcript_lines::output::put_refused;
-use line_printing::put_floats;
 
 // What a call gave.
 pub fn put_outcome(run: Run, outcome: Outcome, out: &mut [u8], at: usize) -> usize

@@ -2,10 +2,10 @@
 ghost use mathlib.Core.Path.{_≡_};
 ghost use Prim.Native.Nat.{_+_, _*_, _≤_};
 ghost use lib.ListN.{length};
-use panoc_core::panoc_cache::ExitStatus;
-use panoc_core::panoc_cache::Question;
 use line_printing::put_counted;
 use line_printing::put_point;
+use panoc_core::panoc_cache::ExitStatus;
+use panoc_core::panoc_cache::Question;
 use word_printing::put_word;
 
 // The smaller of two.

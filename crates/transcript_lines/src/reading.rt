@@ -3,10 +3,10 @@ ghost use Prim.Native.Nat.{_≤_};
 ghost use lib.ListN.{length};
 use crate::output::least;
 use crate::session::Session;
-use panoc_core::panoc_cache::Reply;
 use line_starts::command::Command;
 use line_starts::command::Given;
 use line_starts::command::Said;
+use panoc_core::panoc_cache::Reply;
 use script::said;
 
 // What a line says; one that is too long is of another form.

@@ -1,14 +1,17 @@
 // What is printed of a call of the loop.
 ghost use Prim.Native.Nat.{_+_, _*_, _≤_};
 ghost use lib.ListN.{length};
-use alm_points::first_places;
-use alm_points::points;
-use alm_points::second_places;
 use alm_core::alm_cache::Alm;
 use alm_core::alm_cache::AlmOptimizerStatus;
 use alm_core::alm_cache::AlmOutcome;
 use alm_core::alm_cache::AlmQuestion;
 use alm_core::alm_cache::AlmRun;
+use alm_points::first_places;
+use alm_points::points;
+use alm_points::second_places;
+use line_printing::put_counted;
+use line_printing::put_floats;
+use line_printing::put_point;
 use panoc_core::panoc_cache::Question;
 use transcript_lines::output::least;
 use transcript_lines::output::places;
@@ -17,9 +20,6 @@ use transcript_lines::output::put_failed;
 use transcript_lines::output::put_question;
 use transcript_lines::output::put_refused;
 use transcript_lines::output::put_two;
-use line_printing::put_counted;
-use line_printing::put_floats;
-use line_printing::put_point;
 use word_printing::put_word;
 
 // How many places the second point of the question has; a run of a start that was accepted has n1 at most 32.

@@ -5,13 +5,13 @@ use factory::alm_factory::PsiOutcome;
 use factory::alm_factory::PsiQuestion;
 use factory::alm_factory::PsiRun;
 use factory::alm_factory::Sizes;
+use line_printing::put_point;
 use psi_points::points;
 use transcript_lines::output::least;
 use transcript_lines::output::places;
 use transcript_lines::output::put_failed;
 use transcript_lines::output::put_refused;
 use transcript_lines::output::put_two;
-use line_printing::put_point;
 
 // How many places the first point of a question has.
 pub fn first_places(question: PsiQuestion, sizes: Sizes) -> usize {

@@ -7,8 +7,8 @@ use Rattle.image.specs.Image.{solveOf, stepOf}
 use native.Mathlib.Omega.{arith}
 use mathlib.Core.Path.{refl, sym, ap, _∙_}
 use borrow.Author.Needs.{needs}
-use Rattle.panoc_answers.proofs.lent.on_number.Statement.{statement}
-use Rattle.panoc_answers.proofs.lent.on_number.Tie as tie
+use Rattle.panoc_numbers.proofs.on_number.Statement.{statement}
+use Rattle.panoc_numbers.proofs.on_number.Tie as tie
 
 element-copy-out-phase-of : tie.Need-element-copy-out-phase-of
 element-copy-out-phase-of c = search needs

@@ -3,8 +3,8 @@ use Rattle.panoc_core.specs.Board.{setU, setGradient, setStep, setHalf, setBest
 use Rattle.image.specs.Image.{solveOf, stepOf}
 use native.Mathlib.Omega.{arith}
 use mathlib.Core.Path.{refl, sym, ap, _∙_}
-use Rattle.panoc_step.proofs.standing.Statement.{statement}
-use Rattle.panoc_step.proofs.standing.Tie as tie
+use Rattle.panoc_ends.proofs.standing.Statement.{statement}
+use Rattle.panoc_ends.proofs.standing.Tie as tie
 
 returns : tie.Need-returns
 returns c = λ s. standing-none s _ _ (c .if1 .taken)

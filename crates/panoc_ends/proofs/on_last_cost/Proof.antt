@@ -4,8 +4,8 @@ use Rattle.image.specs.Image.{solveOf, stepOf}
 use native.Mathlib.Omega.{arith}
 use mathlib.Core.Path.{refl, sym, ap, _∙_}
 use borrow.Author.Needs.{needs}
-use Rattle.panoc_step.proofs.on_last_cost.Statement.{statement}
-use Rattle.panoc_step.proofs.on_last_cost.Tie as tie
+use Rattle.panoc_ends.proofs.on_last_cost.Statement.{statement}
+use Rattle.panoc_ends.proofs.on_last_cost.Tie as tie
 
 is-finite-requires : tie.Need-is-finite-requires
 is-finite-requires c κs = search needs
