@@ -42,99 +42,145 @@ fn both(run: AlmRun) -> Places {
     Places { plan, xi }
 }
 
-fn on_cost(run: AlmRun, plan: &mut [f64; 2], xi: &mut [f64; 2]) -> AlmAnswered {
+// An answer: short says that its vector has one place, and stands in one.
+struct Given {
+    reply: Reply,
+    two: [f64; 2],
+    one: [f64; 1],
+    short: bool,
+}
+
+// A vector of two places.
+fn vector(v: [f64; 2]) -> Given {
+    Given {
+        reply: Reply::Vector,
+        two: v,
+        one: [0.0; 1],
+        short: false,
+    }
+}
+
+// A vector of one place.
+fn vector_of_one(v: [f64; 1]) -> Given {
+    Given {
+        reply: Reply::Vector,
+        two: [0.0; 2],
+        one: v,
+        short: true,
+    }
+}
+
+// An answer without a vector.
+fn plain(reply: Reply) -> Given {
+    Given {
+        reply,
+        two: [0.0; 2],
+        one: [0.0; 1],
+        short: true,
+    }
+}
+
+fn on_cost(run: AlmRun) -> Given {
     let p = both(run);
     let u = p.plan;
     let at = p.xi;
     shown::two_points(b"cost", &u, b" xi", &at);
     let x = penalty_by_hand::value::play(u, at, false);
-    answer(run, Reply::Number(x), &u, plan, xi)
+    plain(Reply::Number(x))
 }
 
-fn on_gradient(run: AlmRun, plan: &mut [f64; 2], xi: &mut [f64; 2]) -> AlmAnswered {
+fn on_gradient(run: AlmRun) -> Given {
     let p = both(run);
     let u = p.plan;
     let at = p.xi;
     shown::two_points(b"gradient", &u, b" xi", &at);
     let v = penalty_by_hand::slope::play(u, at, false);
-    answer(run, Reply::Vector, &v, plan, xi)
+    vector(v)
 }
 
-fn on_project(run: AlmRun, plan: &mut [f64; 2], xi: &mut [f64; 2]) -> AlmAnswered {
+fn on_project(run: AlmRun) -> Given {
     let p = point(run);
     shown::line(b"project", &p);
     let v = kiln::project(p);
-    answer(run, Reply::Vector, &v, plan, xi)
+    vector(v)
 }
 
 // The direction is the residual.
-fn on_direction(run: AlmRun, forget: bool, plan: &mut [f64; 2], xi: &mut [f64; 2]) -> AlmAnswered {
+fn on_direction(run: AlmRun, forget: bool) -> Given {
     let p = both(run);
     let residual = p.plan;
     let u = p.xi;
     shown::direction(forget, &residual, &u);
-    answer(run, Reply::Vector, &residual, plan, xi)
+    vector(residual)
 }
 
-fn on_time(run: AlmRun, plan: &mut [f64; 2], xi: &mut [f64; 2]) -> AlmAnswered {
+fn on_time() -> Given {
     shown::word(b"time\n");
-    answer(run, Reply::Yes, &[0.0; 1], plan, xi)
+    plain(Reply::Yes)
 }
 
-fn on_f1(run: AlmRun, plan: &mut [f64; 2], xi: &mut [f64; 2]) -> AlmAnswered {
+fn on_f1(run: AlmRun) -> Given {
     let u = point(run);
     shown::line(b"f1", &u);
     let v = kiln::f1(u);
-    answer(run, Reply::Vector, &v, plan, xi)
+    vector_of_one(v)
 }
 
-fn on_f2(run: AlmRun, plan: &mut [f64; 2], xi: &mut [f64; 2]) -> AlmAnswered {
+fn on_f2(run: AlmRun) -> Given {
     let u = point(run);
     shown::line(b"f2", &u);
     let v = kiln::f2(u);
-    answer(run, Reply::Vector, &v, plan, xi)
+    vector_of_one(v)
 }
 
-fn on_project_c(run: AlmRun, plan: &mut [f64; 2], xi: &mut [f64; 2]) -> AlmAnswered {
+fn on_project_c(run: AlmRun) -> Given {
     let p = point_of_one(run);
     shown::line(b"project_c", &p);
     let v = kiln::project_c(p);
-    answer(run, Reply::Vector, &v, plan, xi)
+    vector_of_one(v)
 }
 
-fn on_project_y(run: AlmRun, plan: &mut [f64; 2], xi: &mut [f64; 2]) -> AlmAnswered {
+fn on_project_y(run: AlmRun) -> Given {
     let p = point_of_one(run);
     shown::line(b"project_y", &p);
     let v = kiln::project_y(p);
-    answer(run, Reply::Vector, &v, plan, xi)
+    vector_of_one(v)
 }
 
-// A question of the inner solve, printed with its points and answered.
-fn inner_turn(
-    run: AlmRun,
-    question: Question,
-    plan: &mut [f64; 2],
-    xi: &mut [f64; 2],
-) -> AlmAnswered {
+// The answer to a question of the inner solve, which is printed with its points.
+fn inner_given(run: AlmRun, question: Question) -> Given {
     match question {
-        Question::Cost => on_cost(run, plan, xi),
-        Question::Gradient => on_gradient(run, plan, xi),
-        Question::Project => on_project(run, plan, xi),
-        Question::Direction(forget) => on_direction(run, forget, plan, xi),
-        Question::Time => on_time(run, plan, xi),
+        Question::Cost => on_cost(run),
+        Question::Gradient => on_gradient(run),
+        Question::Project => on_project(run),
+        Question::Direction(forget) => on_direction(run, forget),
+        Question::Time => on_time(),
     }
 }
 
-// A question of the loop, printed with its points and answered.
-fn turn(run: AlmRun, question: AlmQuestion, plan: &mut [f64; 2], xi: &mut [f64; 2]) -> AlmAnswered {
+// The answer to a question of the loop, which is printed with its points.
+fn loop_given(run: AlmRun, question: AlmQuestion) -> Given {
     match question {
-        AlmQuestion::Inner(inner) => inner_turn(run, inner, plan, xi),
-        AlmQuestion::Time => on_time(run, plan, xi),
-        AlmQuestion::ProjectY => on_project_y(run, plan, xi),
-        AlmQuestion::F1 => on_f1(run, plan, xi),
-        AlmQuestion::ProjectC => on_project_c(run, plan, xi),
-        AlmQuestion::F2 => on_f2(run, plan, xi),
-        AlmQuestion::Cost => on_cost(run, plan, xi),
+        AlmQuestion::Inner(inner) => inner_given(run, inner),
+        AlmQuestion::Time => on_time(),
+        AlmQuestion::ProjectY => on_project_y(run),
+        AlmQuestion::F1 => on_f1(run),
+        AlmQuestion::ProjectC => on_project_c(run),
+        AlmQuestion::F2 => on_f2(run),
+        AlmQuestion::Cost => on_cost(run),
+    }
+}
+
+// A question of the loop, answered.
+fn turn(run: AlmRun, question: AlmQuestion, plan: &mut [f64; 2], xi: &mut [f64; 2]) -> AlmAnswered {
+    let g = loop_given(run, question);
+    let reply = g.reply;
+    if g.short {
+        let one = g.one;
+        answer(run, reply, &one, plan, xi)
+    } else {
+        let two = g.two;
+        answer(run, reply, &two, plan, xi)
     }
 }
 
