@@ -1,7 +1,7 @@
 use Rattle.alm_core.specs.Laws.{stalls-none, stalls-f2, stalls-y, stalls-both, stalls-not}
 use borrow.Author.Needs.{needs}
-use Rattle.alm_weigh.proofs.is_penalty_stall_criterion.Statement.{statement}
-use Rattle.alm_weigh.proofs.is_penalty_stall_criterion.Tie as tie
+use Rattle.alm_tests.proofs.is_penalty_stall_criterion.Statement.{statement}
+use Rattle.alm_tests.proofs.is_penalty_stall_criterion.Tie as tie
 
 returns : tie.Need-returns
 returns c = λ b. stalls-none (c .before .before .before .before .args .s) b (c .before .before .if1 .taken) (c .if2 .taken)

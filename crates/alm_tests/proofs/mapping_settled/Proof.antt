@@ -1,6 +1,6 @@
 use Rattle.alm_core.specs.Laws.{settled-f2-none, settled-f2-is}
-use Rattle.alm_weigh.proofs.mapping_settled.Statement.{statement}
-use Rattle.alm_weigh.proofs.mapping_settled.Tie as tie
+use Rattle.alm_tests.proofs.mapping_settled.Statement.{statement}
+use Rattle.alm_tests.proofs.mapping_settled.Tie as tie
 
 returns : tie.Need-returns
 returns c = settled-f2-none (c .before .before .args .s) (c .if1 .taken)

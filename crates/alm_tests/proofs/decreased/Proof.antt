@@ -1,6 +1,6 @@
 use Rattle.alm_core.specs.Laws.{decreased-is}
-use Rattle.alm_weigh.proofs.decreased.Statement.{statement}
-use Rattle.alm_weigh.proofs.decreased.Tie as tie
+use Rattle.alm_tests.proofs.decreased.Statement.{statement}
+use Rattle.alm_tests.proofs.decreased.Tie as tie
 
 returns : tie.Need-returns
 returns c = decreased-is (c .before .args .s) _ _

@@ -1,7 +1,7 @@
 use Rattle.alm_core.specs.Laws.{exits-is, exits-not-f2, exits-not-y}
 use borrow.Author.Needs.{needs}
-use Rattle.alm_weigh.proofs.is_exit_criterion_satisfied.Statement.{statement}
-use Rattle.alm_weigh.proofs.is_exit_criterion_satisfied.Tie as tie
+use Rattle.alm_tests.proofs.is_exit_criterion_satisfied.Statement.{statement}
+use Rattle.alm_tests.proofs.is_exit_criterion_satisfied.Tie as tie
 
 multipliers-settled-requires : tie.Need-multipliers-settled-requires
 multipliers-settled-requires c κs = search needs

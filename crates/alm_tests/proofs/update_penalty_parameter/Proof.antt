@@ -1,7 +1,7 @@
 use Rattle.alm_core.specs.Laws.{penalty-first, penalty-stays, penalty-grows}
 use borrow.Author.Needs.{needs}
-use Rattle.alm_weigh.proofs.update_penalty_parameter.Statement.{statement}
-use Rattle.alm_weigh.proofs.update_penalty_parameter.Tie as tie
+use Rattle.alm_tests.proofs.update_penalty_parameter.Statement.{statement}
+use Rattle.alm_tests.proofs.update_penalty_parameter.Tie as tie
 
 returns : tie.Need-returns
 returns c = λ b. penalty-first (c .before .before .before .args .s) b (c .if1 .taken)

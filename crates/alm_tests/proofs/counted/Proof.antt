@@ -1,8 +1,8 @@
 use native.Mathlib.Omega.{arith}
 use Rattle.alm_core.specs.Laws.{counts-left, counts-outer, counts-inner, counts-found}
 use borrow.Author.Needs.{needs}
-use Rattle.alm_weigh.proofs.counted.Statement.{statement}
-use Rattle.alm_weigh.proofs.counted.Tie as tie
+use Rattle.alm_tests.proofs.counted.Statement.{statement}
+use Rattle.alm_tests.proofs.counted.Tie as tie
 
 add-k : tie.Need-add-k
 add-k c = omega (arith, counts-outer (c .before .before .before .before .args .s) (c .before .before .before .before .pre))

@@ -1,7 +1,7 @@
 use Rattle.alm_core.specs.Laws.{akkt-is}
 use borrow.Author.Needs.{needs}
-use Rattle.alm_weigh.proofs.update_inner_akkt_tolerance.Statement.{statement}
-use Rattle.alm_weigh.proofs.update_inner_akkt_tolerance.Tie as tie
+use Rattle.alm_tests.proofs.update_inner_akkt_tolerance.Statement.{statement}
+use Rattle.alm_tests.proofs.update_inner_akkt_tolerance.Tie as tie
 
 max-requires : tie.Need-max-requires
 max-requires c κs = search needs

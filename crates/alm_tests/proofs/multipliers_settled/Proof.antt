@@ -1,6 +1,6 @@
 use Rattle.alm_core.specs.Laws.{settled-y-none, settled-y-first, settled-y-is}
-use Rattle.alm_weigh.proofs.multipliers_settled.Statement.{statement}
-use Rattle.alm_weigh.proofs.multipliers_settled.Tie as tie
+use Rattle.alm_tests.proofs.multipliers_settled.Statement.{statement}
+use Rattle.alm_tests.proofs.multipliers_settled.Tie as tie
 
 returns : tie.Need-returns
 returns c = settled-y-none (c .before .before .args .s) (c .if1 .taken)
