@@ -1,8 +1,8 @@
 use mathlib.Core.Path.{refl}
 use Rattle.panoc_core.specs.Board.{given}
 use borrow.Author.Needs.{needs}
-use Rattle.panoc_points.proofs.hand_out.Statement.{statement}
-use Rattle.panoc_points.proofs.hand_out.Tie as tie
+use Rattle.panoc_plan.proofs.hand_out.Statement.{statement}
+use Rattle.panoc_plan.proofs.hand_out.Tie as tie
 
 enum-told : tie.Need-enum-told
 enum-told c = search needs

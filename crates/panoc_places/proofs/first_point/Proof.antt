@@ -1,12 +1,12 @@
 use native.Mathlib.Omega.{arith}
 use mathlib.Core.Path.{refl}
-use Rattle.panoc_points.proofs.PointLaws.{point-at, point-stays}
-use Rattle.panoc_points.specs.Points.{first-fits}
+use Rattle.panoc_places.proofs.FirstPointLaws.{point-at, point-stays}
+use Rattle.panoc_places.specs.Points.{first-fits}
 use Rattle.panoc_core.specs.Board.{asked}
 use Rattle.panoc_core.specs.declared.panoc_cache.Phase.the-variants as P
 use borrow.Author.Needs.{needs}
-use Rattle.panoc_points.proofs.first_point.Statement.{statement}
-use Rattle.panoc_points.proofs.first_point.Tie as tie
+use Rattle.panoc_places.proofs.first_point.Statement.{statement}
+use Rattle.panoc_places.proofs.first_point.Tie as tie
 
 enum-told : tie.Need-enum-told
 enum-told c = search needs
