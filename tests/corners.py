@@ -1,5 +1,5 @@
 #!/usr/bin/env python3
-"""corners.py [--check]: writes crates/corners/specs, the runs of oracle/corners.txt as theorems on the definitions.
+"""corners.py [--check]: writes the specs of crates corners and loop_corners, the runs of oracle/corners.txt as theorems on the definitions.
 
 The questions, points, ends and lent places are what `oracle expect` prints, which runs the Rust files unchanged. Left out are calls that
 lend other places than the start's (`lend`), and runs with lines of another form, of more than 12 places or of more than 80 lines.
@@ -9,7 +9,6 @@ import sys
 
 from by_hand import TOP, expect, number, word
 
-FOLDER = TOP / "crates" / "corners" / "specs"
 STARTS = ("inner", "loop", "psi", "d_psi")
 MOST_PLACES, MOST_LINES = 12, 80
 
@@ -240,9 +239,15 @@ use Rattle.model.specs.Process.{{handed, refused, failed, converged, notConverg
 use Rattle.model.specs.Refusals.{{startInner, startLoop, startPsi, startDPsi}}
 use Rattle.model.specs.Play.{{asked, ended, turned}}
 use Rattle.model.specs.Script.{{int, _·2^_, _/2^_, only, number, vector, yea, nay, failure, says, _▷_, allInner, allLoop, allPsi}}
-use Rattle.corners.specs.Shown.{{Shows, spoken}}
+use {shown}.specs.Shown.{{Shows, spoken}}
 """
-FILES = {"inner": ("InnerCorners", "inner solves"), "loop": ("LoopCorners", "the loop"), "psi": ("PsiCorners", "psi"), "d_psi": ("DPsiCorners", "d_psi")}
+FILES = {
+    "inner": ("corners", "InnerCorners", "inner solves"),
+    "loop": ("loop_corners", "LoopCorners", "the loop"),
+    "psi": ("corners", "PsiCorners", "psi"),
+    "d_psi": ("corners", "DPsiCorners", "d_psi"),
+}
+SHOWN = {"corners": "Rattle.corners.specs", "loop_corners": "Rattle.corners"}
 
 
 def main():
@@ -257,12 +262,12 @@ def main():
             heading[kind] = title
         places[title] = places.get(title, 0) + 1
         texts[kind] += "\n" + theorem(f"{slug(title)}-{places[title]}", lines)
-    for kind, (name, what) in FILES.items():
-        path, text = FOLDER / f"{name}.antt", HEAD.format(what=what) + texts[kind]
+    for kind, (crate, name, what) in FILES.items():
+        path, text = TOP / "crates" / crate / "specs" / f"{name}.antt", HEAD.format(what=what, shown=SHOWN[crate]) + texts[kind]
         if "--check" not in sys.argv[1:]:
             path.write_text(text)
         elif path.read_text() != text:
-            sys.exit(f"crates/corners/specs/{name}.antt is not what tests/corners.py makes")
+            sys.exit(f"crates/{crate}/specs/{name}.antt is not what tests/corners.py makes")
     print(f"corners: {count} runs of the Rust")
 
 

@@ -24,8 +24,8 @@ use Rattle.panoc_core.specs.Wanted as InnerWanted
 use Rattle.panoc_core.specs.Board as Inner
 use Rattle.panoc_core.specs.Board.{waiting}
 use Rattle.panoc_core.specs.Calls as Solve
-use Rattle.panoc_points.specs.Points.{Facts, facts-at, empty, waiting-kind, first-fits, second-fits}
-use Rattle.panoc_points.specs.Points as InnerPoints
+use Rattle.panoc_places.specs.Points.{Facts, facts-at, empty, waiting-kind, first-fits, second-fits}
+use Rattle.panoc_places.specs.Points as InnerPoints
 use Rattle.panoc_core.specs.declared.panoc_cache.Phase.{Phase}
 use Rattle.panoc_core.specs.declared.panoc_cache.Phase.the-variants as IP
 use Rattle.panoc_core.specs.declared.panoc_cache.Run.{Run}

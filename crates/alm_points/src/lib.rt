@@ -68,7 +68,7 @@ pub fn first_places(s: Alm) -> usize
     match phase {
         AlmPhase::Time => 0,
         AlmPhase::ProjectY => s.set.n1,
-        AlmPhase::Inner => panoc_points::first_places(s.solve),
+        AlmPhase::Inner => panoc_places::first_places(s.solve),
         AlmPhase::F1 => s.set.n,
         AlmPhase::ProjectC => s.set.n1,
         AlmPhase::F2 => s.set.n,
@@ -85,7 +85,7 @@ fn inner_second_places(s: Alm) -> usize
     if carries_xi(s.solve) {
         xi_places(s.set.n1, s.set.n2)
     } else {
-        panoc_points::second_places(s.solve)
+        panoc_places::second_places(s.solve)
     }
 }
 
@@ -127,7 +127,7 @@ fn first_point(
     match phase {
         AlmPhase::Time => {}
         AlmPhase::ProjectY => vector_copies::give(y, first),
-        AlmPhase::Inner => panoc_points::first_point(
+        AlmPhase::Inner => panoc_places::first_point(
             s.solve,
             first,
             u,

@@ -1,5 +1,4 @@
 pub mod Shown
 pub mod InnerCorners
-pub mod LoopCorners
 pub mod PsiCorners
 pub mod DPsiCorners

@@ -1,1 +1,1 @@
-// The corners of document 01 as theorems on the definitions, each run as the Rust plays it.
+// The corners of document 01, but those of the loop, as theorems on the definitions, each run as the Rust plays it.

@@ -16,7 +16,7 @@ use Rattle.panoc_core.specs.declared.panoc_cache.Phase.the-variants as IP
 use Rattle.panoc_core.specs.Board as InnerBoard
 use Rattle.panoc_core.specs.Board.{waiting}
 use Rattle.panoc_core.specs.Wanted as InnerWanted
-use Rattle.panoc_points.specs.Points.{empty, waiting-kind}
+use Rattle.panoc_places.specs.Points.{empty, waiting-kind}
 use Rattle.alm_core.specs.declared.alm_cache.Alm.{Alm}
 use Rattle.alm_core.specs.declared.alm_cache.AlmPhase.{AlmPhase}
 use Rattle.alm_core.specs.declared.alm_cache.AlmPhase.the-variants as P

@@ -9,7 +9,7 @@ use alm_calls::lent::fill_xi;
 use alm_points::carries_xi_at;
 use alm_points::xi_places;
 use image::kinds::phase_of;
-use panoc_points::second_places_at;
+use panoc_places::second_places_at;
 use vector_copies::give;
 
 // How many places the second point of the question has.

@@ -9,7 +9,7 @@ use panoc_core::panoc_cache::Run;
 use panoc_core::panoc_cache::Solve;
 use panoc_core::panoc_cache::Stepped;
 use panoc_core::refusals::refusal;
-use panoc_points::hand_out;
+use panoc_plan::hand_out;
 use panoc_wanted::wants;
 
 // An answer to the question of a run in place: v is the vector where one is answered, and a plan goes into the lent slice.

@@ -18,7 +18,7 @@ use Rattle.panoc_core.specs.declared.panoc_cache.Solve.{Solve}
 use Rattle.panoc_core.specs.Values.{firstPoint, secondPoint}
 use Rattle.panoc_core.specs.Rest.{rest}
 use Rattle.panoc_core.specs.Board.{Board, runOf, Sound, wantedOf, waiting, firstPlaces, secondPlaces, firstAt}
-use Rattle.panoc_points.specs.Points.{Facts, facts-at, asking-none, asking-some, waiting-kind}
+use Rattle.panoc_places.specs.Points.{Facts, facts-at, asking-none, asking-some, waiting-kind}
 use Rattle.panoc_core.specs.Calls.{Points, asking, pointsRefusal}
 use Rattle.panoc_core.specs.Laws.{rest-sound}
 use Rattle.panoc_core.specs.Wanted.{wanted-is, wanted-sound}
@@ -81,12 +81,3 @@ module _ (s : Solve) (b : Board) (xs ys : List Float) (t : Bool) (te : t ≡ wai
               let z≡ : question .0 ≡ z = some-same (sym (question .1) ∙ w) in
               (x ∙ facts .2 xs g ∙ ap firstPoint z≡, y ∙ ap (λ (n : ℕ). firsts n (b .u)) h ∙ sym (facts .3) ∙ ap secondPoint z≡);
         }
-
--- the first point, at a phase
-pub point-at : (s : Solve) (b : Board) (p : Phase) (xs xs′ w : List Float) → s .phase ≡ p → length xs ≡ firstPlaces (s .set .n) (s .phase) → firstPlaces (s .set .n) p ≡ s .set .n
-    → xs′ ≡ firsts (length xs) w → firstAt (runOf s b) p xs ≡ firsts (s .set .n) w → xs′ ≡ firstAt (runOf s b) (s .phase) xs
-point-at s b p xs xs′ w e l f x g =
-    x ∙ ap (λ (n : ℕ). firsts n w) (l ∙ ap (firstPlaces (s .set .n)) e ∙ f) ∙ sym g ∙ sym (ap (λ (z : Phase). firstAt (runOf s b) z xs) e)
-
-pub point-stays : (s : Solve) (b : Board) (p : Phase) (xs : List Float) → s .phase ≡ p → firstAt (runOf s b) p xs ≡ xs → xs ≡ firstAt (runOf s b) (s .phase) xs
-point-stays s b p xs e g = sym g ∙ sym (ap (λ (z : Phase). firstAt (runOf s b) z xs) e)

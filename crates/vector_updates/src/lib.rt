@@ -32,20 +32,6 @@ pub fn less_times_into(a: &[f64; 64], gamma: f64, b: &[f64; 64], r: &mut [f64; 6
     }
 }
 
-// r = a + γ × b
-pub fn plus_times_into(gamma: f64, a: &[f64; 64], b: &[f64; 64], r: &mut [f64; 64], n: usize)
-    requires { ⌜ n ≤ 64 ⌝ }
-    ensures { λ _. ⌜ firsts n (now (r .exit)) ≡ plusTimes binary64 gamma (firsts n (now (a .entry))) (firsts n (now (b .entry))) ⌝ }
-{
-    let _ = matrix_operations::sized(r);
-    let mut i = 0;
-    while i < n {
-        let t = gamma * b[i];
-        r[i] = a[i] + t;
-        i += 1;
-    }
-}
-
 // r = r + γ × b
 pub fn add_times(gamma: f64, b: &[f64; 64], r: &mut [f64; 64], n: usize)
     requires { ⌜ n ≤ 64 ⌝ }

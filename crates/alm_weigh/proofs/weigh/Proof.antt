@@ -1,5 +1,4 @@
 use native.Mathlib.Omega.{arith}
-use mathlib.Core.Path.{subst, sym, ap, _∙_}
 use Rattle.alm_core.specs.Laws.{sized-n, sized-n1, weigh-ends, weigh-goes, counted-closing, closing-same, sized-same}
 use Rattle.alm_core.specs.Board.{four}
 use borrow.Author.Needs.{needs}

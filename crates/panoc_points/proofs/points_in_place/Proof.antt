@@ -1,7 +1,7 @@
 use native.Mathlib.Omega.{arith}
 use mathlib.Core.Path.{_∙_}
 use Rattle.panoc_points.proofs.PointLaws.{waiting-sound, points-over, points-first, points-second, points-given}
-use Rattle.panoc_points.specs.Points.{second-fits}
+use Rattle.panoc_places.specs.Points.{second-fits}
 use Rattle.panoc_core.specs.Laws.{sound-n}
 use Rattle.panoc_core.specs.Board.{asked}
 use mathlib.Core.Path.{sym}
