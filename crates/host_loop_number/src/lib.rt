@@ -8,7 +8,7 @@ use alm_image::waiting::wants;
 use image_puts::note;
 use lent_loop::carry;
 use lent_loop::fits;
-use lent_loop::own_number;
+use lent_own::own_number;
 use panoc_core::panoc_cache::Reply;
 use panoc_core::refusals::refusal;
 use panoc_numbers::on_number;

@@ -5,7 +5,7 @@ use alm_image::waiting::wants;
 use image_puts::note;
 use lent_loop::carry;
 use lent_loop::fits;
-use lent_loop::own;
+use lent_own::own;
 use panoc_answers::lent::on_vector;
 use panoc_core::panoc_cache::Reply;
 use panoc_core::refusals::refusal;

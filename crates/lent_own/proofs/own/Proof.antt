@@ -1,10 +1,10 @@
 use mathlib.Core.Path.{sym}
 use Rattle.alm_image.specs.AlmImage.{almOf}
 use Rattle.lent_loop.specs.Laws.{own-may, own-takes, short, short-xi, settles, blank}
 use Rattle.alm_image.proofs.Phases.{not-inner}
 use borrow.Author.Needs.{needs}
-use Rattle.lent_loop.proofs.own.Statement.{statement}
-use Rattle.lent_loop.proofs.own.Tie as tie
+use Rattle.lent_own.proofs.own.Statement.{statement}
+use Rattle.lent_own.proofs.own.Tie as tie
 
 alm-of-requires : tie.Need-alm-of-requires
 alm-of-requires c κs = search needs

@@ -7,8 +7,8 @@ use Rattle.panoc_core.specs.declared.panoc_cache.Reply.the-variants.{Number}
 use mathlib.Core.List.{[]}
 use mathlib.Core.Path.{sym}
 use borrow.Author.Needs.{needs}
-use Rattle.lent_loop.proofs.own_number.Statement.{statement}
-use Rattle.lent_loop.proofs.own_number.Tie as tie
+use Rattle.lent_own.proofs.own_number.Statement.{statement}
+use Rattle.lent_own.proofs.own_number.Tie as tie
 
 alm-of-requires : tie.Need-alm-of-requires
 alm-of-requires c κs = search needs
