@@ -1,9 +1,9 @@
-use Rattle.host_loop_points.specs.Exports.{placeOf}
+use Rattle.host_loop_place.specs.Places.{placeOf}
 use Rattle.alm_core.specs.declared.alm_cache.AlmPhase.{AlmPhase}
 use mathlib.Core.Path.{ap, sym}
 use borrow.Author.Needs.{needs}
-use Rattle.host_loop_points.proofs.calls.own_place_of.Statement.{statement}
-use Rattle.host_loop_points.proofs.calls.own_place_of.Tie as tie
+use Rattle.host_loop_place.proofs.own_place_of.Statement.{statement}
+use Rattle.host_loop_place.proofs.own_place_of.Tie as tie
 
 enum-told : tie.Need-enum-told
 enum-told c = search needs

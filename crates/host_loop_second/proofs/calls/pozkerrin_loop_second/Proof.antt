@@ -1,12 +1,12 @@
-use Rattle.host_loop_points.proofs.SecondLaws.{second-over, second-given, second-refused}
+use Rattle.host_loop_second.proofs.SecondLaws.{second-over, second-given, second-refused}
 use Rattle.alm_image.specs.AlmImage.{almOf}
 use Rattle.alm_points.specs.LoopPointLaws.{waiting-sound, sound-wide}
 use Rattle.alm_core.specs.Board.{setU, setY}
 use Rattle.panoc_core.specs.Board.{waiting}
 use mathlib.Core.Path.{ap, sym, _∙_}
 use borrow.Author.Needs.{needs}
-use Rattle.host_loop_points.proofs.calls.pozkerrin_loop_second.Statement.{statement}
-use Rattle.host_loop_points.proofs.calls.pozkerrin_loop_second.Tie as tie
+use Rattle.host_loop_second.proofs.calls.pozkerrin_loop_second.Statement.{statement}
+use Rattle.host_loop_second.proofs.calls.pozkerrin_loop_second.Tie as tie
 
 wants-requires : tie.Need-wants-requires
 wants-requires c κs = search needs

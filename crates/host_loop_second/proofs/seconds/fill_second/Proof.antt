@@ -1,10 +1,10 @@
-use Rattle.host_loop_points.proofs.SecondLaws.{room-xi, room-own, room-last, filled-xi, filled-own, filled-last, filled-none}
+use Rattle.host_loop_second.proofs.SecondLaws.{room-xi, room-own, room-last, filled-xi, filled-own, filled-last, filled-none}
 use Rattle.alm_image.specs.AlmImage.{almOf}
 use Rattle.alm_points.specs.LoopPoints.{carriesXi}
 use mathlib.Core.Path.{ap, _∙_}
 use borrow.Author.Needs.{needs}
-use Rattle.host_loop_points.proofs.seconds.fill_second.Statement.{statement}
-use Rattle.host_loop_points.proofs.seconds.fill_second.Tie as tie
+use Rattle.host_loop_second.proofs.seconds.fill_second.Statement.{statement}
+use Rattle.host_loop_second.proofs.seconds.fill_second.Tie as tie
 
 element-copy-out-if1 : tie.Need-element-copy-out-if1
 element-copy-out-if1 c = search needs

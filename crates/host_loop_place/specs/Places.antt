@@ -1,10 +1,8 @@
--- The second point of the loop's question alone, and where the first lies. Definitions only.
-use Prim.Native.Nat.{ℕ, suc}
+-- Where the first point of the loop's question lies. Definitions only.
+use Prim.Native.Nat.{ℕ}
 use mathlib.Core.Path.{_≡_}
-use mathlib.Core.Bool.{cond}
 use mathlib.Core.List.{List, [], _∷_}
-use mathlib.Core.Option.{Option, none, some}
-use lib.Dec.{eqb}
+use mathlib.Core.Option.{some}
 use lib.Ieee.{Float}
 use lib.ListN.{length, getD}
 use Rattle.matrix_operations.specs.Firsts.{firsts}
@@ -13,23 +11,10 @@ use Rattle.panoc_core.specs.declared.panoc_cache.Phase.{Phase}
 use Rattle.alm_core.specs.declared.alm_cache.Alm.{Alm}
 use Rattle.alm_core.specs.declared.alm_cache.AlmPhase.{AlmPhase}
 use Rattle.alm_core.specs.declared.alm_cache.AlmPhase.the-variants as P
-use Rattle.alm_core.specs.declared.alm_cache.AlmRun.{AlmRun}
 use Rattle.alm_core.specs.Rest.{LoopBoard}
-use Rattle.alm_core.specs.Values.{firstPoint, secondPoint}
+use Rattle.alm_core.specs.Values.{firstPoint}
 use Rattle.alm_calls.specs.LoopCalls.{runOf, restOf, asking}
 use Rattle.host_points.specs.Places as Inner
-
--- the second point alone: 6 where the run has ended, 8 where the slice is not as long as that point, else 0
-unfoldable pub secondRefusal : Option M.LoopQuestion → ℕ → ℕ
-secondRefusal none ys = 6
-secondRefusal (some q) ys = cond (eqb ys (length (secondPoint q))) 0 8
-
-pub record Second (run : AlmRun) (ys ys′ : List Float) (k : ℕ) : Type 0 where
-  pub number : k ≡ secondRefusal (asking (restOf run)) (length ys)
-  pub kept : (m : ℕ) → k ≡ suc m → ys′ ≡ ys
-  pub point : k ≡ 0 → (q : M.LoopQuestion) → asking (restOf run) ≡ some q → ys′ ≡ secondPoint q
-
--- ---- where a point lies
 
 -- the vectors that hold first points, by their numbers
 abbrev pub holders : LoopBoard → List (List Float)

@@ -1,7 +1,7 @@
-use Rattle.host_loop_points.proofs.SecondLaws.{points-as}
+use Rattle.host_loop_points.proofs.PointLaws.{points-as}
 use borrow.Author.Needs.{needs}
-use Rattle.host_loop_points.proofs.calls.pozkerrin_loop_points.Statement.{statement}
-use Rattle.host_loop_points.proofs.calls.pozkerrin_loop_points.Tie as tie
+use Rattle.host_loop_points.proofs.pozkerrin_loop_points.Statement.{statement}
+use Rattle.host_loop_points.proofs.pozkerrin_loop_points.Tie as tie
 
 alm-of-requires : tie.Need-alm-of-requires
 alm-of-requires c κs = search needs

@@ -19,12 +19,12 @@ use Rattle.alm_core.specs.declared.alm_cache.AlmPhase.the-variants as P
 use Rattle.alm_core.specs.Rest.{LoopBoard}
 use Rattle.alm_core.specs.Board.{Sound}
 use Rattle.alm_core.specs.Values.{firstPoint, secondPoint}
-use Rattle.alm_calls.specs.LoopCalls.{wantedOf, runOf, pointsRefusal, xiGiven, Points}
+use Rattle.alm_calls.specs.LoopCalls.{wantedOf, runOf, pointsRefusal, xiGiven}
 use Rattle.alm_points.specs.LoopPoints.{carriesXi, firstPlaces, secondPlaces, firstAt, secondAt}
 use Rattle.alm_points.specs.LoopPointLaws.{points-over, points-second, points-given, places-with, places-without, room-with, room-without, second-with, second-without, sound-wide, sound-inner, xi-room}
 use Rattle.image.specs.Image as I
 use Rattle.alm_image.specs.AlmImage.{phaseOf, almOf}
-use Rattle.host_loop_points.specs.Exports.{Second, secondRefusal}
+use Rattle.host_loop_second.specs.Second.{Second, secondRefusal}
 
 -- ---- the number of the second point alone, from that of both
 over : (o : Option M.LoopQuestion) (xs ys : ℕ) → 6 ≡ pointsRefusal o xs ys → 6 ≡ secondRefusal o ys
@@ -143,7 +143,3 @@ filled-none s u y ys (suc (suc (suc (suc (suc zero))))) h j = refl
 filled-none s u y ys (suc (suc (suc (suc (suc (suc zero)))))) h j = refl
 filled-none s u y ys (suc (suc (suc (suc (suc (suc (suc zero))))))) h j = absurd (j refl)
 filled-none s u y ys (suc (suc (suc (suc (suc (suc (suc (suc n)))))))) h j = refl
-
--- ---- both points
-pub points-as : (s z : Alm) (b : LoopBoard) (xs xs′ ys ys′ : List Float) (m : ℕ) → s ≡ z → Points (runOf s b) xs xs′ ys ys′ m → Points (runOf z b) xs xs′ ys ys′ m
-points-as s z b xs xs′ ys ys′ m e g = subst (λ (q : Alm). Points (runOf q b) xs xs′ ys ys′ m) e g

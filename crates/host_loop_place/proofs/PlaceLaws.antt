@@ -27,7 +27,7 @@ use Rattle.alm_calls.specs.LoopLaws.{wanted-is, wanted-phase}
 use Rattle.alm_points.specs.LoopPoints.{firstPlaces, firstAt}
 use Rattle.alm_points.specs.LoopPointLaws.{LoopFacts, waits-facts}
 use Rattle.host_points.specs.Places as Inner
-use Rattle.host_loop_points.specs.Exports.{holders, placeOf, Lies}
+use Rattle.host_loop_place.specs.Places.{holders, placeOf, Lies}
 
 -- a run that asks waits
 asking-waits : (p : M.Loop) (q : M.LoopQuestion) → asking p ≡ some q → waiting (wanted p) ≡ true

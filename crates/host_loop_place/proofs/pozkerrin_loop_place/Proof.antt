@@ -1,5 +1,5 @@
-use Rattle.host_loop_points.proofs.Places.{lies}
-use Rattle.host_loop_points.specs.Exports.{placeOf}
+use Rattle.host_loop_place.proofs.PlaceLaws.{lies}
+use Rattle.host_loop_place.specs.Places.{placeOf}
 use Rattle.host_points.specs.Places as Inner
 use lib.ListN.{getD}
 use Rattle.alm_image.proofs.Phases.{not-inner}
@@ -9,8 +9,8 @@ use Rattle.alm_core.specs.declared.alm_cache.AlmPhase.{AlmPhase}
 use Rattle.panoc_core.specs.declared.panoc_cache.Phase.{Phase}
 use mathlib.Core.Path.{ap, sym, _∙_}
 use borrow.Author.Needs.{needs}
-use Rattle.host_loop_points.proofs.calls.pozkerrin_loop_place.Statement.{statement}
-use Rattle.host_loop_points.proofs.calls.pozkerrin_loop_place.Tie as tie
+use Rattle.host_loop_place.proofs.pozkerrin_loop_place.Statement.{statement}
+use Rattle.host_loop_place.proofs.pozkerrin_loop_place.Tie as tie
 
 element-copy-out-if1 : tie.Need-element-copy-out-if1
 element-copy-out-if1 c = search needs

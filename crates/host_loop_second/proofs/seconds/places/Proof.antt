@@ -1,11 +1,11 @@
-use Rattle.host_loop_points.proofs.SecondLaws.{places-xi, places-own, places-last, places-none}
+use Rattle.host_loop_second.proofs.SecondLaws.{places-xi, places-own, places-last, places-none}
 use Rattle.alm_image.specs.AlmImage.{almOf}
 use Rattle.panoc_core.specs.Board.{secondPlaces}
 use Rattle.alm_points.specs.LoopPoints.{carriesXi}
 use mathlib.Core.Path.{ap, _∙_}
 use borrow.Author.Needs.{needs}
-use Rattle.host_loop_points.proofs.seconds.places.Statement.{statement}
-use Rattle.host_loop_points.proofs.seconds.places.Tie as tie
+use Rattle.host_loop_second.proofs.seconds.places.Statement.{statement}
+use Rattle.host_loop_second.proofs.seconds.places.Tie as tie
 
 element-copy-out-if1 : tie.Need-element-copy-out-if1
 element-copy-out-if1 c = search needs
