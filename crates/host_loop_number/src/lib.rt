@@ -4,7 +4,7 @@ ghost use Rattle.alm_core.specs.Rest.{LoopBoard};
 ghost use Rattle.alm_calls.specs.LoopCalls.{Answers, runOf, gave};
 ghost use Rattle.alm_image.specs.AlmImage.{almOf, stepOf};
 ghost use Rattle.host_loop_number.specs.Eight.{eight};
-use alm_image::waiting::wants;
+use alm_waiting::wants;
 use image_puts::note;
 use lent_loop::carry;
 use lent_loop::fits;

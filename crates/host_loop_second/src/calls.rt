@@ -6,7 +6,7 @@ ghost use Rattle.alm_image.specs.AlmImage.{almOf};
 ghost use Rattle.host_loop_second.specs.Second.{Second};
 use crate::seconds::fill_second;
 use crate::seconds::places;
-use alm_image::waiting::wants;
+use alm_waiting::wants;
 use panoc_wanted::waits;
 
 // The second point of the question of a run alone: xi or u. 0, or 6 where the run has ended and 8 where the slice is not as long as that point.

@@ -1,8 +1,8 @@
 use Rattle.alm_image.specs.AlmImage.{almOf}
 use Rattle.alm_calls.specs.LoopLaws.{counts-far, counts-many, counts-more, counts-last, counts-is}
 use borrow.Author.Needs.{needs}
-use Rattle.alm_image.proofs.waiting.is_counted.Statement.{statement}
-use Rattle.alm_image.proofs.waiting.is_counted.Tie as tie
+use Rattle.alm_waiting.proofs.is_counted.Statement.{statement}
+use Rattle.alm_waiting.proofs.is_counted.Tie as tie
 
 element-copy-out-left : tie.Need-element-copy-out-left
 element-copy-out-left c = search needs

@@ -1,11 +1,11 @@
 use Rattle.alm_calls.specs.LoopLaws.{sound-last, sound-other, sound-not}
 use Rattle.alm_image.proofs.Phases.{not-last, not-inner}
 use Rattle.alm_core.specs.declared.alm_cache.AlmPhase.the-variants as P
 use Rattle.alm_image.specs.AlmImage.{almOf, phaseOf}
 use mathlib.Core.Path.{refl, sym, ap, _∙_}
 use borrow.Author.Needs.{needs}
-use Rattle.alm_image.proofs.waiting.is_sound.Statement.{statement}
-use Rattle.alm_image.proofs.waiting.is_sound.Tie as tie
+use Rattle.alm_waiting.proofs.is_sound.Statement.{statement}
+use Rattle.alm_waiting.proofs.is_sound.Tie as tie
 
 is-sized-requires : tie.Need-is-sized-requires
 is-sized-requires c κs = search needs

@@ -4,8 +4,8 @@ use mathlib.Core.Option.{some}
 use Prim.Native.Nat.{ℕ}
 use mathlib.Core.Path.{sym, ap, _∙_}
 use borrow.Author.Needs.{needs}
-use Rattle.alm_image.proofs.waiting.wants_own.Statement.{statement}
-use Rattle.alm_image.proofs.waiting.wants_own.Tie as tie
+use Rattle.alm_waiting.proofs.wants_own.Statement.{statement}
+use Rattle.alm_waiting.proofs.wants_own.Tie as tie
 
 enum-told : tie.Need-enum-told
 enum-told c = search needs

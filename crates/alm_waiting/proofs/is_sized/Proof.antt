@@ -1,8 +1,8 @@
 use Rattle.alm_image.specs.AlmImage.{almOf}
 use Rattle.alm_calls.specs.LoopLaws.{sized-wide, sized-wide1, sized-wide2, sized-is}
 use borrow.Author.Needs.{needs}
-use Rattle.alm_image.proofs.waiting.is_sized.Statement.{statement}
-use Rattle.alm_image.proofs.waiting.is_sized.Tie as tie
+use Rattle.alm_waiting.proofs.is_sized.Statement.{statement}
+use Rattle.alm_waiting.proofs.is_sized.Tie as tie
 
 element-copy-out-if1 : tie.Need-element-copy-out-if1
 element-copy-out-if1 c = search needs
