@@ -3,7 +3,7 @@ ghost use Rattle.alm_calls.specs.LoopCalls.{Answers, before, after, runOf, gave
 ghost use Rattle.alm_image.specs.AlmImage.{almOf, stepOf};
 ghost use Rattle.lent_loop.specs.Lent.{Accepted};
 use lent_loop::carry;
-use lent_loop::own;
+use lent_own::own;
 use panoc_answers::lent::take_lent;
 use panoc_core::panoc_cache::Reply;
 

@@ -3,7 +3,7 @@ ghost use Rattle.alm_calls.specs.LoopCalls.{before, after, runOf, gave};
 ghost use Rattle.alm_image.specs.AlmImage.{almOf, stepOf};
 ghost use Rattle.host_loop.specs.Exports.{Exported};
 use crate::answers::answer_accepted;
-use alm_image::waiting::wants;
+use alm_waiting::wants;
 use image::kinds::reply_of;
 use image_puts::note;
 use image_solve::refuse;

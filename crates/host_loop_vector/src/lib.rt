@@ -1,11 +1,11 @@
 // A vector for the question of a loop, for C: the quick way for GRADIENT, PROJECT and DIRECTION, F1, F2 and the projections on C and Y.
 ghost use Rattle.alm_calls.specs.LoopCalls.{Answers, before, after, runOf, gave};
 ghost use Rattle.alm_image.specs.AlmImage.{almOf, stepOf};
-use alm_image::waiting::wants;
+use alm_waiting::wants;
 use image_puts::note;
 use lent_loop::carry;
 use lent_loop::fits;
-use lent_loop::own;
+use lent_own::own;
 use panoc_answers::lent::on_vector;
 use panoc_core::panoc_cache::Reply;
 use panoc_core::refusals::refusal;
