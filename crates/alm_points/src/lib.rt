@@ -176,18 +176,18 @@ fn second_point(s: Alm, second: &mut [f64], u: &[f64; 64], y: &[f64; 64])
 }
 
 // The points of the question of a run in place: 0, or 6 where it has ended and 8 where a slice is not as long as its point.
-pub fn points_in_place(
+pub fn points_in_place<'a>(
     s: Alm,
     first: &mut [f64],
     second: &mut [f64],
-    u: &[f64; 64],
-    candidate: &[f64; 64],
-    step: &[f64; 64],
-    half: &[f64; 64],
-    fpr: &[f64; 64],
-    best: &[f64; 64],
-    y: &[f64; 64],
-    plus: &[f64; 64],
+    u: &'a [f64; 64],
+    candidate: &'a [f64; 64],
+    step: &'a [f64; 64],
+    half: &'a [f64; 64],
+    fpr: &'a [f64; 64],
+    best: &'a [f64; 64],
+    y: &'a [f64; 64],
+    plus: &'a [f64; 64],
 ) -> u32
     ensures { λ r. ⌜ ((b : LoopBoard) → Points (runOf s (asked (now (u .entry)) (now (candidate .entry)) (now (step .entry)) (now (half .entry)) (now (fpr .entry)) (now (best .entry)) (now (y .entry)) (now (plus .entry)) b)) (now (first .entry)) (now (first .exit)) (now (second .entry)) (now (second .exit)) r) ⌝ }
 {
@@ -211,25 +211,17 @@ pub fn points(run: AlmRun, first: &mut [f64], second: &mut [f64]) -> u32
     ensures { λ r. ⌜ Points run (now (first .entry)) (now (first .exit)) (now (second .entry)) (now (second .exit)) r ⌝ }
 {
     let s = run.alm;
-    let u = run.u;
-    let candidate = run.u_plus;
-    let step = run.gradient_step;
-    let half = run.u_half_step;
-    let fpr = run.gamma_fpr;
-    let best = run.best_u_half_step;
-    let y = run.y;
-    let plus = run.y_plus;
     points_in_place(
         s,
         first,
         second,
-        &u,
-        &candidate,
-        &step,
-        &half,
-        &fpr,
-        &best,
-        &y,
-        &plus,
+        &run.u,
+        &run.u_plus,
+        &run.gradient_step,
+        &run.u_half_step,
+        &run.gamma_fpr,
+        &run.best_u_half_step,
+        &run.y,
+        &run.y_plus,
     )
 }

@@ -8,7 +8,7 @@ use alm_points::points_in_place;
 
 // The points of the question of a run: 0, or 6 where it has ended and 8 where a slice is not as long as its point.
 #[no_mangle]
-pub extern "C" fn pozkerrin_loop_points(
+pub extern "C" fn pozkerrin_loop_points<'a>(
     w: &[u32; 6],
     k: &[usize; 6],
     f: &[f64; 13],
@@ -17,14 +17,14 @@ pub extern "C" fn pozkerrin_loop_points(
     lf: &[f64; 17],
     first: &mut [f64],
     second: &mut [f64],
-    u: &[f64; 64],
-    candidate: &[f64; 64],
-    step: &[f64; 64],
-    half: &[f64; 64],
-    fpr: &[f64; 64],
-    best: &[f64; 64],
-    y: &[f64; 64],
-    plus: &[f64; 64],
+    u: &'a [f64; 64],
+    candidate: &'a [f64; 64],
+    step: &'a [f64; 64],
+    half: &'a [f64; 64],
+    fpr: &'a [f64; 64],
+    best: &'a [f64; 64],
+    y: &'a [f64; 64],
+    plus: &'a [f64; 64],
 ) -> u32
     ensures { λ r. ⌜ ((b : LoopBoard) → Points (runOf (almOf (now (w .entry)) (now (k .entry)) (now (f .entry)) (now (lw .entry)) (now (lk .entry)) (now (lf .entry))) (asked (now (u .entry)) (now (candidate .entry)) (now (step .entry)) (now (half .entry)) (now (fpr .entry)) (now (best .entry)) (now (y .entry)) (now (plus .entry)) b)) (now (first .entry)) (now (first .exit)) (now (second .entry)) (now (second .exit)) r) ⌝ }
 {

@@ -14,18 +14,18 @@ use panoc_points::points_in_place;
 
 // The points of the question of a run: 0, or 6 where it has ended and 8 where a slice is not as long as its point.
 #[no_mangle]
-pub extern "C" fn pozkerrin_inner_points(
+pub extern "C" fn pozkerrin_inner_points<'a>(
     w: &[u32; 6],
     k: &[usize; 6],
     f: &[f64; 13],
     first: &mut [f64],
     second: &mut [f64],
-    u: &[f64; 64],
-    plus: &[f64; 64],
-    step: &[f64; 64],
-    half: &[f64; 64],
-    fpr: &[f64; 64],
-    best: &[f64; 64],
+    u: &'a [f64; 64],
+    plus: &'a [f64; 64],
+    step: &'a [f64; 64],
+    half: &'a [f64; 64],
+    fpr: &'a [f64; 64],
+    best: &'a [f64; 64],
 ) -> u32
     ensures { λ r. ⌜ ((b : Board) → Points (runOf (solveOf (now (w .entry)) (now (k .entry)) (now (f .entry))) (asked (now (u .entry)) (now (plus .entry)) (now (step .entry)) (now (half .entry)) (now (fpr .entry)) (now (best .entry)) b)) (now (first .entry)) (now (first .exit)) (now (second .entry)) (now (second .exit)) r) ⌝ }
 {

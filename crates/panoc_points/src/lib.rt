@@ -18,16 +18,16 @@ pub fn is_waiting(s: Solve) -> bool
 }
 
 // The points of the question of a run in place: 0, or 6 where it has ended and 8 where a slice is not as long as its point.
-pub fn points_in_place(
+pub fn points_in_place<'a>(
     s: Solve,
     first: &mut [f64],
     second: &mut [f64],
-    u: &[f64; 64],
-    plus: &[f64; 64],
-    step: &[f64; 64],
-    half: &[f64; 64],
-    fpr: &[f64; 64],
-    best: &[f64; 64],
+    u: &'a [f64; 64],
+    plus: &'a [f64; 64],
+    step: &'a [f64; 64],
+    half: &'a [f64; 64],
+    fpr: &'a [f64; 64],
+    best: &'a [f64; 64],
 ) -> u32
     ensures { λ r. ⌜ ((b : Board) → Points (runOf s (asked (now (u .entry)) (now (plus .entry)) (now (step .entry)) (now (half .entry)) (now (fpr .entry)) (now (best .entry)) b)) (now (first .entry)) (now (first .exit)) (now (second .entry)) (now (second .exit)) r) ⌝ }
 {
@@ -51,11 +51,15 @@ pub fn points(run: Run, first: &mut [f64], second: &mut [f64]) -> u32
     ensures { λ r. ⌜ Points run (now (first .entry)) (now (first .exit)) (now (second .entry)) (now (second .exit)) r ⌝ }
 {
     let s = run.solve;
-    let u = run.u;
-    let plus = run.u_plus;
-    let step = run.gradient_step;
-    let half = run.u_half_step;
-    let fpr = run.gamma_fpr;
-    let best = run.best_u_half_step;
-    points_in_place(s, first, second, &u, &plus, &step, &half, &fpr, &best)
+    points_in_place(
+        s,
+        first,
+        second,
+        &run.u,
+        &run.u_plus,
+        &run.gradient_step,
+        &run.u_half_step,
+        &run.gamma_fpr,
+        &run.best_u_half_step,
+    )
 }

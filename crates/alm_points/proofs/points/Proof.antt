@@ -13,7 +13,7 @@ same-length-2 : tie.Need-same-length-2
 same-length-2 c = search needs
 
 returns : tie.Need-returns
-returns c = c .before .before .before .before .points-in-place .ensures (boardOf (c .before .before .before .before .before .before .before .before .before .before .before .before .before .before .before .before .before .before .before .before .before .before .before .before .before .before .args .run))
+returns c = c .before .before .before .before .points-in-place .ensures (boardOf (c .before .before .before .before .before .before .before .before .before .before .before .before .before .before .before .before .before .before .before .args .t1))
 
 pub points-spec : {M : Type 1} → statement M
 points-spec = tie.close (tie.spec points-in-place-requires same-length same-length-2 returns)
