@@ -2,3 +2,4 @@ pub mod Shown
 pub mod InnerCorners
 pub mod PsiCorners
 pub mod DPsiCorners
+pub mod LongRun
