@@ -103,7 +103,7 @@ pub fn on_tried_project(
     requires { ⌜ (Sound (solveOf (now w) (now k) (now f))) × (phaseOf (getD (now w) 0 0) ≡ Phase.TriedProject) × (length (now v) ≡ getD (now k) 3 0) ⌝ }
     ensures { λ r. ⌜ Takes (solveOf (now (w .entry)) (now (k .entry)) (now (f .entry))) (nine (now (u .entry)) (now (plus .entry)) (now (gradient .entry)) (now (previous .entry)) (now (step .entry)) (now (half .entry)) (now (fpr .entry)) (now (direction .entry)) (now (best .entry))) Reply.Vector (now (v .entry)) (stepOf r (now (w .exit)) (now (k .exit)) (now (f .exit))) (nine (now (u .exit)) (now (plus .exit)) (now (gradient .entry)) (now (previous .exit)) (now (step .entry)) (now (half .exit)) (now (fpr .exit)) (now (direction .entry)) (now (best .exit))) ⌝ }
 {
-    let sums = line_sums::candidate_sums_into(v, gradient, step, plus, half);
+    let sums = candidate_sums::candidate_sums_into(v, gradient, step, plus, half);
     let value = envelope(f[0], f[2], sums.gradient_squared, sums.distance_squared);
     if worse(f[7], value, k[2]) {
         try_again(w, k, f, u, plus, fpr, direction)

@@ -1,4 +1,4 @@
--- `line_sums::candidate_sums_into` meets its contract: each turn stores a place of v, adds the square of a place of g, of one of a - v and of one of w - v, and adds the product of the first and the last. Assumes nothing.
+-- `candidate_sums::candidate_sums_into` meets its contract: each turn stores a place of v, adds the square of a place of g, of one of a - v and of one of w - v, and adds the product of the first and the last. Assumes nothing.
 use Prim.Native.Nat.{_≤_, _-_}
 use mathlib.Core.Path.{_≡_, refl, sym, _∙_}
 use native.Mathlib.Omega.{arith}
@@ -9,8 +9,8 @@ use Rattle.ieee.specs.Sums.{squares}
 use Rattle.model.specs.Vectors.{minus, dot}
 use Rattle.matrix_operations.specs.Firsts.{firsts}
 use Rattle.matrix_operations.specs.Laws.{firsts-all, firsts-grows, minus-grows, store-none, store-turn, squares-none, squares-turn, dot-none, dot-turn}
-use Rattle.line_sums.proofs.candidate_sums_into.Statement.{statement}
-use Rattle.line_sums.proofs.candidate_sums_into.Tie as tie
+use Rattle.candidate_sums.proofs.candidate_sums_into.Statement.{statement}
+use Rattle.candidate_sums.proofs.candidate_sums_into.Tie as tie
 
 abbrev Inv-loop : tie.InvT-loop
 Inv-loop v g a w h₀ n p₀ q₀ s₀ t₀ i₀ h p q s t i = (i ≤ n) × (n ≡ length v) × (length h ≡ 64) × (firsts i h ≡ firsts i v) × (p ≡ squares binary64 (firsts i g)) × (q ≡ squares binary64 (minus binary64 (firsts i a) (firsts i v))) × (s ≡ squares binary64 (minus binary64 (firsts i w) (firsts i v))) × (t ≡ dot binary64 (firsts i g) (minus binary64 (firsts i w) (firsts i v)))
