@@ -1,7 +1,7 @@
-use Rattle.host_d_psi.proofs.Laws.{d-psi-points}
+use Rattle.host_d_psi_points.proofs.Laws.{d-psi-points}
 use borrow.Author.Needs.{needs}
-use Rattle.host_d_psi.proofs.pozkerrin_d_psi_points.Statement.{statement}
-use Rattle.host_d_psi.proofs.pozkerrin_d_psi_points.Tie as tie
+use Rattle.host_d_psi_points.proofs.pozkerrin_d_psi_points.Statement.{statement}
+use Rattle.host_d_psi_points.proofs.pozkerrin_d_psi_points.Tie as tie
 
 d-psi-of-requires : tie.Need-d-psi-of-requires
 d-psi-of-requires c κs = search needs

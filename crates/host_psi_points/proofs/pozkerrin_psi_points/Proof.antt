@@ -1,7 +1,7 @@
-use Rattle.host_psi.proofs.Laws.{psi-points}
+use Rattle.host_psi_points.proofs.Laws.{psi-points}
 use borrow.Author.Needs.{needs}
-use Rattle.host_psi.proofs.pozkerrin_psi_points.Statement.{statement}
-use Rattle.host_psi.proofs.pozkerrin_psi_points.Tie as tie
+use Rattle.host_psi_points.proofs.pozkerrin_psi_points.Statement.{statement}
+use Rattle.host_psi_points.proofs.pozkerrin_psi_points.Tie as tie
 
 psi-of-requires : tie.Need-psi-of-requires
 psi-of-requires c κs = search needs
