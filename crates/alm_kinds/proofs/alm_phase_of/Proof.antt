@@ -2,10 +2,10 @@ use native.Mathlib.Omega.{arith}
 use lib.ListN.{List·getD-eq-default}
 use mathlib.Core.Path.{sym}
 use Rattle.image.specs.Rounds.{above}
-use Rattle.alm_image.specs.AlmImage.{phases}
+use Rattle.alm_kinds.specs.AlmKinds.{phases}
 use borrow.Author.Needs.{needs}
-use Rattle.alm_image.proofs.kinds.alm_phase_of.Statement.{statement}
-use Rattle.alm_image.proofs.kinds.alm_phase_of.Tie as tie
+use Rattle.alm_kinds.proofs.alm_phase_of.Statement.{statement}
+use Rattle.alm_kinds.proofs.alm_phase_of.Tie as tie
 
 returns : tie.Need-returns
 returns c = search needs
