@@ -1,8 +1,8 @@
 use Rattle.host_loop.proofs.Laws.{malformed-as, exported-as}
 use Rattle.lent_loop.specs.Laws.{refused-as, accepted-as}
 use borrow.Author.Needs.{needs}
-use Rattle.host_loop.proofs.calls.pozkerrin_loop_answer.Statement.{statement}
-use Rattle.host_loop.proofs.calls.pozkerrin_loop_answer.Tie as tie
+use Rattle.host_loop.proofs.pozkerrin_loop_answer.Statement.{statement}
+use Rattle.host_loop.proofs.pozkerrin_loop_answer.Tie as tie
 
 wants-requires : tie.Need-wants-requires
 wants-requires c κs = search needs

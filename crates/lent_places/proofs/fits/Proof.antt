@@ -1,7 +1,7 @@
 use borrow.Author.Tests.{eq-eqb, ne-eqb}
 use borrow.Author.Needs.{needs}
-use Rattle.lent_loop.proofs.fits.Statement.{statement}
-use Rattle.lent_loop.proofs.fits.Tie as tie
+use Rattle.lent_places.proofs.fits.Statement.{statement}
+use Rattle.lent_places.proofs.fits.Tie as tie
 
 element-copy-out-if1 : tie.Need-element-copy-out-if1
 element-copy-out-if1 c = search needs

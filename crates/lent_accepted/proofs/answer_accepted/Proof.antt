@@ -1,7 +1,7 @@
 use Rattle.lent_loop.specs.Laws.{take-may, carry-may, carried-answers}
 use borrow.Author.Needs.{needs}
-use Rattle.host_loop.proofs.answers.answer_accepted.Statement.{statement}
-use Rattle.host_loop.proofs.answers.answer_accepted.Tie as tie
+use Rattle.lent_accepted.proofs.answer_accepted.Statement.{statement}
+use Rattle.lent_accepted.proofs.answer_accepted.Tie as tie
 
 element-copy-out-if1 : tie.Need-element-copy-out-if1
 element-copy-out-if1 c = search needs

@@ -1,7 +1,7 @@
 use Rattle.alm_image.specs.AlmStored.{stored-as}
 use borrow.Author.Needs.{needs}
-use Rattle.lent_loop.proofs.finish.Statement.{statement}
-use Rattle.lent_loop.proofs.finish.Tie as tie
+use Rattle.lent_places.proofs.finish.Statement.{statement}
+use Rattle.lent_places.proofs.finish.Tie as tie
 
 hand-out-requires : tie.Need-hand-out-requires
 hand-out-requires c κs = search needs

@@ -1,8 +1,8 @@
 use native.Mathlib.Omega.{arith}
-use Rattle.lent_loop.specs.Laws.{settled-kept, settled-noted}
+use Rattle.lent_question.specs.Settling.{settled-kept, settled-noted}
 use borrow.Author.Needs.{needs}
-use Rattle.lent_loop.proofs.settle_question.Statement.{statement}
-use Rattle.lent_loop.proofs.settle_question.Tie as tie
+use Rattle.lent_question.proofs.settle_question.Statement.{statement}
+use Rattle.lent_question.proofs.settle_question.Tie as tie
 
 element-copy-out-if1 : tie.Need-element-copy-out-if1
 element-copy-out-if1 c = search needs
