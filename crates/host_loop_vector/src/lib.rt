@@ -3,10 +3,8 @@ ghost use Rattle.alm_calls.specs.LoopCalls.{Answers, before, after, runOf, gave
 ghost use Rattle.alm_image.specs.AlmImage.{almOf, stepOf};
 use alm_waiting::wants;
 use image_puts::note;
-use lent_loop::carry;
-use lent_loop::fits;
-use lent_own::own;
-use panoc_answers::lent::on_vector;
+use lent_accepted::answer_accepted;
+use lent_places::fits;
 use panoc_core::panoc_cache::Reply;
 use panoc_core::refusals::refusal;
 
@@ -44,25 +42,7 @@ pub extern "C" fn pozkerrin_loop_vector(
         note(number, w);
         return 2;
     }
-    if lw[0] == 3 {
-        let r = on_vector(
-            v,
-            w,
-            k,
-            f,
-            u,
-            candidate,
-            gradient,
-            previous,
-            step,
-            half,
-            fpr,
-            direction,
-            best,
-        );
-        return carry(r, w, k, f, lw, lk, lf, plan, xi, u, best, y, plus);
-    }
-    own(
+    answer_accepted(
         w,
         k,
         f,
@@ -75,6 +55,12 @@ pub extern "C" fn pozkerrin_loop_vector(
         xi,
         u,
         candidate,
+        gradient,
+        previous,
+        step,
+        half,
+        fpr,
+        direction,
         best,
         y,
         plus,

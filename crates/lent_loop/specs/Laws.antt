@@ -1,15 +1,13 @@
 -- What an answer to a loop on lent numbers gives. Assumes nothing.
-use Prim.Native.Nat.{ℕ, zero, suc, _-_, _*_, _≤_, _<_}
+use Prim.Native.Nat.{ℕ, _-_, _*_, _≤_}
 use mathlib.Core.Path.{_≡_, refl, sym, ap, _∙_, subst}
 use mathlib.Core.Bool.{Bool, true, _&&_}
 use mathlib.Core.List.{List, []}
-use native.Mathlib.Omega.{arith}
 use lib.Ieee.{Float}
 use lib.Dec.{leb, eqb}
-use lib.ListN.{length, getD, List·getD-eq-default}
+use lib.ListN.{length, getD}
 use Rattle.model.specs.Process as M
 use Rattle.model.specs.Refusals.{answerRefusal, accept}
-use Rattle.panoc_core.specs.declared.panoc_cache.Question.the-variants as IQ
 use Rattle.panoc_core.specs.declared.panoc_cache.Reply.{Reply}
 use Rattle.panoc_core.specs.declared.panoc_cache.Settings.{Settings}
 use Rattle.panoc_core.specs.declared.panoc_cache.Solve.{Solve}
@@ -35,7 +33,9 @@ use Rattle.alm_calls.specs.LoopLaws.{inner-refusal, inner-ready, inner-n, inner
 use Rattle.image.specs.Image as I
 use Rattle.image.specs.Image.{solveOf, noted}
 use Rattle.alm_image.specs.AlmImage.{phaseOf, questionOf, settingsOf, almOf, stepOf}
-use Rattle.lent_loop.specs.Lent.{Accepted, HandsOut, Settled, Reached, Carried}
+use Rattle.lent_places.specs.Handing.{HandsOut}
+use Rattle.lent_question.specs.Settling.{Settled}
+use Rattle.lent_loop.specs.Lent.{Accepted, Reached, Carried}
 
 -- a loop with another inner solve
 abbrev holding : Solve → Alm → Alm
@@ -186,19 +186,3 @@ module _ (w k : List ℕ) (f : List Float) (lw lk : List ℕ) (lf : List Float) 
     carried-answers o u y ws zs c =
         settles loop a v us xs acc b (record { inner = InnerBoard.setU u i; y = y; yPlus = b .yPlus; w = b .w }) o o ws zs
         (on-takes loop a v us xs acc (ap phaseOf p) b (I.stepOf r w′ k′ f′) i t (I.stepOf r w′ k′ f′) after o u y refl refl (c .carries)) (refl, c .hands)
-
--- ---- the number of the inner solve's question
-inner-question : (m : ℕ) → m ≤ 5 → questionOf m ≡ Q.Inner (I.questionOf m)
-inner-question zero h = refl
-inner-question (suc zero) h = refl
-inner-question (suc (suc zero)) h = refl
-inner-question (suc (suc (suc zero))) h = refl
-inner-question (suc (suc (suc (suc zero)))) h = refl
-inner-question (suc (suc (suc (suc (suc zero))))) h = refl
-inner-question (suc (suc (suc (suc (suc (suc m)))))) h = absurd (omega (arith, h))
-
-pub settled-kept : (w : List ℕ) → getD w 1 0 ≤ 5 → Settled w w
-settled-kept w h = (λ k f. refl, inner-question (getD w 1 0) h)
-
-pub settled-noted : (w w′ : List ℕ) → 5 < getD w 1 0 → w′ ≡ noted 5 w → Settled w w′
-settled-noted w w′ h n = subst (λ (q : List ℕ). Settled w q) (sym n) (λ k f. refl, ap Q.Inner (sym (List·getD-eq-default I.questions IQ.Time {n = getD w 1 0} (omega (arith, h)))))

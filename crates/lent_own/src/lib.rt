@@ -10,7 +10,7 @@ ghost use Rattle.lent_loop.specs.Lent.{Accepted};
 use alm_answers::take_own;
 use alm_handlers::on_last_cost;
 use alm_image::lent::alm_of;
-use lent_loop::finish;
+use lent_places::finish;
 use panoc_core::panoc_cache::Reply;
 
 // The number x for the last COST of the loop.

@@ -10,7 +10,15 @@ use alm_points::points;
 use alm_starts::start;
 use panoc_core::panoc_cache::Question;
 use panoc_core::panoc_cache::Reply;
+use penalty_by_hand::given::Given;
+use penalty_by_hand::given::on_f1;
+use penalty_by_hand::given::on_f2;
+use penalty_by_hand::given::on_project_c;
+use penalty_by_hand::given::short;
+use penalty_by_hand::given::vector;
 use penalty_by_hand::kiln;
+use penalty_by_hand::slope;
+use penalty_by_hand::value;
 
 // The plan and the penalty with the multiplier that are lent.
 pub struct Places {
@@ -34,7 +42,7 @@ fn point_of_one(run: AlmRun) -> [f64; 1] {
     first
 }
 
-// A question with two points of two places.
+// The two points of a question, of two places each; zeros at any other.
 fn both(run: AlmRun) -> Places {
     let mut plan = [0.0; 2];
     let mut xi = [0.0; 2];
@@ -42,118 +50,51 @@ fn both(run: AlmRun) -> Places {
     Places { plan, xi }
 }
 
-// An answer: short says that its vector has one place, and stands in one.
-struct Given {
-    reply: Reply,
-    two: [f64; 2],
-    one: [f64; 1],
-    short: bool,
+fn on_cost(at: Places) -> Given {
+    let u = at.plan;
+    let xi = at.xi;
+    shown::two_points(b"cost", &u, b" xi", &xi);
+    short(Reply::Number(value::play(u, xi, false)), 0.0)
 }
 
-// A vector of two places.
-fn vector(v: [f64; 2]) -> Given {
-    Given {
-        reply: Reply::Vector,
-        two: v,
-        one: [0.0; 1],
-        short: false,
-    }
-}
-
-// A vector of one place.
-fn vector_of_one(v: [f64; 1]) -> Given {
-    Given {
-        reply: Reply::Vector,
-        two: [0.0; 2],
-        one: v,
-        short: true,
-    }
-}
-
-// An answer without a vector.
-fn plain(reply: Reply) -> Given {
-    Given {
-        reply,
-        two: [0.0; 2],
-        one: [0.0; 1],
-        short: true,
-    }
-}
-
-fn on_cost(run: AlmRun) -> Given {
-    let p = both(run);
-    let u = p.plan;
-    let at = p.xi;
-    shown::two_points(b"cost", &u, b" xi", &at);
-    let x = penalty_by_hand::value::play(u, at, false);
-    plain(Reply::Number(x))
-}
-
-fn on_gradient(run: AlmRun) -> Given {
-    let p = both(run);
-    let u = p.plan;
-    let at = p.xi;
-    shown::two_points(b"gradient", &u, b" xi", &at);
-    let v = penalty_by_hand::slope::play(u, at, false);
-    vector(v)
-}
-
-fn on_project(run: AlmRun) -> Given {
-    let p = point(run);
-    shown::line(b"project", &p);
-    let v = kiln::project(p);
-    vector(v)
+fn on_gradient(at: Places) -> Given {
+    let u = at.plan;
+    let xi = at.xi;
+    shown::two_points(b"gradient", &u, b" xi", &xi);
+    vector(slope::play(u, xi, false))
 }
 
 // The direction is the residual.
-fn on_direction(run: AlmRun, forget: bool) -> Given {
-    let p = both(run);
-    let residual = p.plan;
-    let u = p.xi;
+fn on_direction(at: Places, forget: bool) -> Given {
+    let residual = at.plan;
+    let u = at.xi;
     shown::direction(forget, &residual, &u);
     vector(residual)
 }
 
+fn on_project(p: [f64; 2]) -> Given {
+    shown::line(b"project", &p);
+    vector(kiln::project(p))
+}
+
 fn on_time() -> Given {
     shown::word(b"time\n");
-    plain(Reply::Yes)
+    short(Reply::Yes, 0.0)
 }
 
-fn on_f1(run: AlmRun) -> Given {
-    let u = point(run);
-    shown::line(b"f1", &u);
-    let v = kiln::f1(u);
-    vector_of_one(v)
-}
-
-fn on_f2(run: AlmRun) -> Given {
-    let u = point(run);
-    shown::line(b"f2", &u);
-    let v = kiln::f2(u);
-    vector_of_one(v)
-}
-
-fn on_project_c(run: AlmRun) -> Given {
-    let p = point_of_one(run);
-    shown::line(b"project_c", &p);
-    let v = kiln::project_c(p);
-    vector_of_one(v)
-}
-
-fn on_project_y(run: AlmRun) -> Given {
-    let p = point_of_one(run);
+fn on_project_y(p: [f64; 1]) -> Given {
     shown::line(b"project_y", &p);
-    let v = kiln::project_y(p);
-    vector_of_one(v)
+    short(Reply::Vector, kiln::project_y(p[0]))
 }
 
 // The answer to a question of the inner solve, which is printed with its points.
 fn inner_given(run: AlmRun, question: Question) -> Given {
+    let at = both(run);
     match question {
-        Question::Cost => on_cost(run),
-        Question::Gradient => on_gradient(run),
-        Question::Project => on_project(run),
-        Question::Direction(forget) => on_direction(run, forget),
+        Question::Cost => on_cost(at),
+        Question::Gradient => on_gradient(at),
+        Question::Project => on_project(point(run)),
+        Question::Direction(forget) => on_direction(at, forget),
         Question::Time => on_time(),
     }
 }
@@ -163,11 +104,11 @@ fn loop_given(run: AlmRun, question: AlmQuestion) -> Given {
     match question {
         AlmQuestion::Inner(inner) => inner_given(run, inner),
         AlmQuestion::Time => on_time(),
-        AlmQuestion::ProjectY => on_project_y(run),
-        AlmQuestion::F1 => on_f1(run),
-        AlmQuestion::ProjectC => on_project_c(run),
-        AlmQuestion::F2 => on_f2(run),
-        AlmQuestion::Cost => on_cost(run),
+        AlmQuestion::ProjectY => on_project_y(point_of_one(run)),
+        AlmQuestion::F1 => on_f1(point(run), true),
+        AlmQuestion::ProjectC => on_project_c(point_of_one(run), true),
+        AlmQuestion::F2 => on_f2(point(run), true),
+        AlmQuestion::Cost => on_cost(both(run)),
     }
 }
 
@@ -175,12 +116,11 @@ fn loop_given(run: AlmRun, question: AlmQuestion) -> Given {
 fn turn(run: AlmRun, question: AlmQuestion, plan: &mut [f64; 2], xi: &mut [f64; 2]) -> AlmAnswered {
     let g = loop_given(run, question);
     let reply = g.reply;
+    let v = g.v;
     if g.short {
-        let one = g.one;
-        answer(run, reply, &one, plan, xi)
+        answer(run, reply, &[v[0]], plan, xi)
     } else {
-        let two = g.two;
-        answer(run, reply, &two, plan, xi)
+        answer(run, reply, &v, plan, xi)
     }
 }
 

@@ -14,28 +14,25 @@ pub fn gradient(u: [f64; 2]) -> [f64; 2] {
 }
 
 // F1: u0² + u1, to be at most 1.
-pub fn f1(u: [f64; 2]) -> [f64; 1] {
-    let x = u[0] * u[0] + u[1];
-    [x]
+pub fn f1(u: [f64; 2]) -> f64 {
+    u[0] * u[0] + u[1]
 }
 
 // The transposed Jacobian of F1, times d.
-pub fn jf1t(u: [f64; 2], d: [f64; 1]) -> [f64; 2] {
-    let x = 2.0 * u[0] * d[0];
-    let y = d[0];
-    [x, y]
+pub fn jf1t(u: [f64; 2], d: f64) -> [f64; 2] {
+    let x = 2.0 * u[0] * d;
+    [x, d]
 }
 
 // F2: u0 - 2 × u1, to be 0.
-pub fn f2(u: [f64; 2]) -> [f64; 1] {
-    let x = u[0] - 2.0 * u[1];
-    [x]
+pub fn f2(u: [f64; 2]) -> f64 {
+    u[0] - 2.0 * u[1]
 }
 
-pub fn jf2t(d: [f64; 1]) -> [f64; 2] {
-    let x = d[0];
-    let y = -2.0 * d[0];
-    [x, y]
+// The transposed Jacobian of F2, times d.
+pub fn jf2t(d: f64) -> [f64; 2] {
+    let y = -2.0 * d;
+    [d, y]
 }
 
 fn clamp(x: f64, low: f64, high: f64) -> f64 {
@@ -53,13 +50,11 @@ pub fn project(p: [f64; 2]) -> [f64; 2] {
 }
 
 // The set C: at most 1.
-pub fn project_c(p: [f64; 1]) -> [f64; 1] {
-    let x = clamp(p[0], -1000.0, 1.0);
-    [x]
+pub fn project_c(p: f64) -> f64 {
+    clamp(p, -1000.0, 1.0)
 }
 
 // The set Y: between -10 and 10.
-pub fn project_y(p: [f64; 1]) -> [f64; 1] {
-    let x = clamp(p[0], -10.0, 10.0);
-    [x]
+pub fn project_y(p: f64) -> f64 {
+    clamp(p, -10.0, 10.0)
 }

@@ -1,6 +1,7 @@
 // psi and d_psi of the model at u and xi, as runs; their questions are printed where they are to be shown.
 use factory::alm_factory::Sizes;
 
+pub mod given;
 pub mod kiln;
 pub mod slope;
 pub mod value;

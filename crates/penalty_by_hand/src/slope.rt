@@ -1,4 +1,10 @@
 // d_psi: the gradient of psi, as a run.
+use crate::given::Given;
+use crate::given::on_f1;
+use crate::given::on_f2;
+use crate::given::on_project_c;
+use crate::given::short;
+use crate::given::vector;
 use crate::kiln;
 use crate::sizes;
 use crate::tell;
@@ -11,7 +17,7 @@ use factory::alm_factory::DPsiRun;
 use factory::alm_factory::PsiQuestion;
 use panoc_core::panoc_cache::Reply;
 
-// The point of a question that is asked at u alone.
+// The point of a question that is asked at u alone; zeros at any other.
 fn at_u(run: DPsiRun) -> [f64; 2] {
     let mut first = [0.0; 2];
     let mut second = [0.0; 0];
@@ -27,66 +33,68 @@ fn at_t(run: DPsiRun) -> [f64; 1] {
     first
 }
 
-fn on_gradient(run: DPsiRun, result: &mut [f64; 2], aloud: bool) -> DPsiAnswered {
-    let u = at_u(run);
+// The points of a product.
+struct Product {
+    u: [f64; 2],
+    d: [f64; 1],
+}
+
+fn at_both(run: DPsiRun) -> Product {
+    let mut u = [0.0; 2];
+    let mut d = [0.0; 1];
+    points(run, &mut u, &mut d);
+    Product { u, d }
+}
+
+fn on_gradient(u: [f64; 2], aloud: bool) -> Given {
     tell(aloud, b"gradient", &u);
-    let v = kiln::gradient(u);
-    answer(run, Reply::Vector, &v, result)
+    vector(kiln::gradient(u))
 }
 
-fn on_f1(run: DPsiRun, result: &mut [f64; 2], aloud: bool) -> DPsiAnswered {
-    let u = at_u(run);
-    tell(aloud, b"f1", &u);
-    let v = kiln::f1(u);
-    answer(run, Reply::Vector, &v, result)
-}
-
-fn on_project_c(run: DPsiRun, result: &mut [f64; 2], aloud: bool) -> DPsiAnswered {
-    let t = at_t(run);
-    tell(aloud, b"project_c", &t);
-    let v = kiln::project_c(t);
-    answer(run, Reply::Vector, &v, result)
-}
-
-fn on_jf1t(run: DPsiRun, result: &mut [f64; 2], aloud: bool) -> DPsiAnswered {
-    let mut u = [0.0; 2];
-    let mut d = [0.0; 1];
-    points(run, &mut u, &mut d);
+// A product and its points.
+fn tell_product(aloud: bool, name: &[u8], u: [f64; 2], d: [f64; 1]) {
     if aloud {
-        shown::two_points(b"jf1t", &u, b" d", &d);
+        shown::two_points(name, &u, b" d", &d);
     }
-    let v = kiln::jf1t(u, d);
-    answer(run, Reply::Vector, &v, result)
 }
 
-fn on_f2(run: DPsiRun, result: &mut [f64; 2], aloud: bool) -> DPsiAnswered {
+fn on_jf1t(p: Product, aloud: bool) -> Given {
+    let u = p.u;
+    let d = p.d;
+    tell_product(aloud, b"jf1t", u, d);
+    vector(kiln::jf1t(u, d[0]))
+}
+
+fn on_jf2t(p: Product, aloud: bool) -> Given {
+    let u = p.u;
+    let d = p.d;
+    tell_product(aloud, b"jf2t", u, d);
+    vector(kiln::jf2t(d[0]))
+}
+
+// The answer to a question; d_psi asks no cost.
+fn given_to(run: DPsiRun, question: PsiQuestion, aloud: bool) -> Given {
     let u = at_u(run);
-    tell(aloud, b"f2", &u);
-    let v = kiln::f2(u);
-    answer(run, Reply::Vector, &v, result)
-}
-
-fn on_jf2t(run: DPsiRun, result: &mut [f64; 2], aloud: bool) -> DPsiAnswered {
-    let mut u = [0.0; 2];
-    let mut d = [0.0; 1];
-    points(run, &mut u, &mut d);
-    if aloud {
-        shown::two_points(b"jf2t", &u, b" d", &d);
-    }
-    let v = kiln::jf2t(d);
-    answer(run, Reply::Vector, &v, result)
-}
-
-// A question of d_psi, answered; it asks no cost.
-fn turn(run: DPsiRun, question: PsiQuestion, result: &mut [f64; 2], aloud: bool) -> DPsiAnswered {
     match question {
-        PsiQuestion::Cost => { answer(run, Reply::Failure(0), &[0.0; 1], result) }
-        PsiQuestion::Gradient => on_gradient(run, result, aloud),
-        PsiQuestion::F1 => on_f1(run, result, aloud),
-        PsiQuestion::ProjectC => on_project_c(run, result, aloud),
-        PsiQuestion::Jf1t => on_jf1t(run, result, aloud),
-        PsiQuestion::F2 => on_f2(run, result, aloud),
-        PsiQuestion::Jf2t => on_jf2t(run, result, aloud),
+        PsiQuestion::Cost => short(Reply::Failure(0), 0.0),
+        PsiQuestion::Gradient => on_gradient(u, aloud),
+        PsiQuestion::F1 => on_f1(u, aloud),
+        PsiQuestion::ProjectC => on_project_c(at_t(run), aloud),
+        PsiQuestion::Jf1t => on_jf1t(at_both(run), aloud),
+        PsiQuestion::F2 => on_f2(u, aloud),
+        PsiQuestion::Jf2t => on_jf2t(at_both(run), aloud),
+    }
+}
+
+// A question of d_psi, answered.
+fn turn(run: DPsiRun, question: PsiQuestion, result: &mut [f64; 2], aloud: bool) -> DPsiAnswered {
+    let g = given_to(run, question, aloud);
+    let reply = g.reply;
+    let v = g.v;
+    if g.short {
+        answer(run, reply, &[v[0]], result)
+    } else {
+        answer(run, reply, &v, result)
     }
 }
 

@@ -1,4 +1,9 @@
 // psi: f with the penalties of F1 and F2, as a run.
+use crate::given::Given;
+use crate::given::on_f1;
+use crate::given::on_f2;
+use crate::given::on_project_c;
+use crate::given::short;
 use crate::kiln;
 use crate::sizes;
 use crate::tell;
@@ -11,7 +16,7 @@ use psi::answer;
 use psi_points::points;
 use psi_starts::start;
 
-// The point of a question that is asked at u.
+// The point of a question that is asked at u; zeros at any other.
 fn at_u(run: PsiRun) -> [f64; 2] {
     let mut first = [0.0; 2];
     let mut second = [0.0; 0];
@@ -27,43 +32,29 @@ fn at_t(run: PsiRun) -> [f64; 1] {
     first
 }
 
-fn on_cost(run: PsiRun, aloud: bool) -> PsiAnswered {
-    let u = at_u(run);
+fn on_cost(u: [f64; 2], aloud: bool) -> Given {
     tell(aloud, b"cost", &u);
-    let x = kiln::cost(u);
-    answer(run, Reply::Number(x), &u)
+    short(Reply::Number(kiln::cost(u)), 0.0)
 }
 
-fn on_f1(run: PsiRun, aloud: bool) -> PsiAnswered {
+// The answer to a question; psi asks no gradient and no product.
+fn given_to(run: PsiRun, question: PsiQuestion, aloud: bool) -> Given {
     let u = at_u(run);
-    tell(aloud, b"f1", &u);
-    let v = kiln::f1(u);
-    answer(run, Reply::Vector, &v)
-}
-
-fn on_project_c(run: PsiRun, aloud: bool) -> PsiAnswered {
-    let t = at_t(run);
-    tell(aloud, b"project_c", &t);
-    let v = kiln::project_c(t);
-    answer(run, Reply::Vector, &v)
-}
-
-fn on_f2(run: PsiRun, aloud: bool) -> PsiAnswered {
-    let u = at_u(run);
-    tell(aloud, b"f2", &u);
-    let v = kiln::f2(u);
-    answer(run, Reply::Vector, &v)
-}
-
-// A question of psi, answered; it asks no gradient and no product.
-fn turn(run: PsiRun, question: PsiQuestion, aloud: bool) -> PsiAnswered {
     match question {
-        PsiQuestion::Cost => on_cost(run, aloud),
-        PsiQuestion::F1 => on_f1(run, aloud),
-        PsiQuestion::ProjectC => on_project_c(run, aloud),
-        PsiQuestion::F2 => on_f2(run, aloud),
-        _ => answer(run, Reply::Failure(0), &[0.0; 1]),
+        PsiQuestion::Cost => on_cost(u, aloud),
+        PsiQuestion::F1 => on_f1(u, aloud),
+        PsiQuestion::ProjectC => on_project_c(at_t(run), aloud),
+        PsiQuestion::F2 => on_f2(u, aloud),
+        _ => short(Reply::Failure(0), 0.0),
     }
+}
+
+// A question of psi, answered; every vector that it asks for has one place.
+fn turn(run: PsiRun, question: PsiQuestion, aloud: bool) -> PsiAnswered {
+    let g = given_to(run, question, aloud);
+    let reply = g.reply;
+    let v = g.v;
+    answer(run, reply, &[v[0]])
 }
 
 // The number of an end.

@@ -44,7 +44,7 @@ fn project(p: [f64; 3]) -> [f64; 3] {
     [x, y, z]
 }
 
-// The point of a question that has one.
+// The point of a question that has one alone; zeros at any other.
 fn point(run: Run) -> [f64; 3] {
     let mut first = [0.0; 3];
     let mut second = [0.0; 0];
@@ -52,51 +52,74 @@ fn point(run: Run) -> [f64; 3] {
     first
 }
 
-fn on_cost(run: Run, plan: &mut [f64; 3]) -> Answered {
-    let u = point(run);
+// An answer; its three places count where it is a vector.
+struct Given {
+    reply: Reply,
+    v: [f64; 3],
+}
+
+fn vector(v: [f64; 3]) -> Given {
+    Given {
+        reply: Reply::Vector,
+        v,
+    }
+}
+
+// An answer without a vector.
+fn plain(reply: Reply) -> Given {
+    Given { reply, v: [0.0; 3] }
+}
+
+fn on_cost(u: [f64; 3]) -> Given {
     shown::line(b"cost", &u);
     let x = cost(u);
-    answer(run, Reply::Number(x), &u, plan)
+    plain(Reply::Number(x))
 }
 
-fn on_gradient(run: Run, plan: &mut [f64; 3]) -> Answered {
-    let u = point(run);
+fn on_gradient(u: [f64; 3]) -> Given {
     shown::line(b"gradient", &u);
     let v = gradient(u);
-    answer(run, Reply::Vector, &v, plan)
+    vector(v)
 }
 
-fn on_project(run: Run, plan: &mut [f64; 3]) -> Answered {
-    let p = point(run);
+fn on_project(p: [f64; 3]) -> Given {
     shown::line(b"project", &p);
     let v = project(p);
-    answer(run, Reply::Vector, &v, plan)
+    vector(v)
 }
 
 // The direction is the residual.
-fn on_direction(run: Run, forget: bool, plan: &mut [f64; 3]) -> Answered {
+fn on_direction(run: Run, forget: bool) -> Given {
     let mut residual = [0.0; 3];
     let mut u = [0.0; 3];
     points(run, &mut residual, &mut u);
     shown::direction(forget, &residual, &u);
-    answer(run, Reply::Vector, &residual, plan)
+    vector(residual)
 }
 
-fn on_time(run: Run, plan: &mut [f64; 3]) -> Answered {
-    let v = [0.0; 3];
+fn on_time() -> Given {
     shown::word(b"time\n");
-    answer(run, Reply::Yes, &v, plan)
+    plain(Reply::Yes)
 }
 
-// A question is printed with its points, and answered.
-fn turn(run: Run, question: Question, plan: &mut [f64; 3]) -> Answered {
+// The answer to a question, which is printed with its points.
+fn given_to(run: Run, question: Question) -> Given {
+    let at = point(run);
     match question {
-        Question::Cost => on_cost(run, plan),
-        Question::Gradient => on_gradient(run, plan),
-        Question::Project => on_project(run, plan),
-        Question::Direction(forget) => on_direction(run, forget, plan),
-        Question::Time => on_time(run, plan),
+        Question::Cost => on_cost(at),
+        Question::Gradient => on_gradient(at),
+        Question::Project => on_project(at),
+        Question::Direction(forget) => on_direction(run, forget),
+        Question::Time => on_time(),
     }
+}
+
+// A question, answered.
+fn turn(run: Run, question: Question, plan: &mut [f64; 3]) -> Answered {
+    let g = given_to(run, question);
+    let reply = g.reply;
+    let v = g.v;
+    answer(run, reply, &v, plan)
 }
 
 fn print_end(status: SolverStatus, plan: [f64; 3]) {
