@@ -2,7 +2,6 @@
 ghost use Prim.Native.Nat.{_≤_, _<_};
 ghost use lib.ListN.{length};
 
-mod asides;
 mod turns;
 
 use transcript_lines::refill::flush;

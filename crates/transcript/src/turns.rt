@@ -2,7 +2,6 @@
 ghost use Prim.Native.Nat.{_+_, _≤_, _<_};
 ghost use lib.ListN.{length};
 ghost use Rattle.transcript_lines.specs.Within.{Within};
-use crate::asides::aside;
 use line_starts::command::Command;
 use transcript_answers::answers;
 use transcript_lines::lines::next;
@@ -11,6 +10,37 @@ use transcript_lines::reading::reply;
 use transcript_lines::session::told;
 use transcript_starts::starts;
 use transcript_state::Play;
+use transcript_state::asides::aside;
+
+// Whether a command starts a run.
+fn is_start(command: Command) -> bool {
+    match command {
+        Command::Inner(_) => true,
+        Command::Loop(_) => true,
+        Command::Psi(_) => true,
+        Command::DPsi(_) => true,
+        _ => false,
+    }
+}
+
+// What a command that is no answer says is done, with the floats of its line.
+fn unanswered(
+    p: Play,
+    command: Command,
+    v: &[f64],
+    w: &[f64],
+    u: &mut [f64],
+    xi: &mut [f64],
+    out: &mut [u8],
+) -> Play
+    requires { ⌜ (p .session .at + 4500 ≤ length (now out)) × (length (now u) ≤ 128) × (length (now xi) ≤ 128) ⌝ }
+    ensures { λ r. ⌜ r .at ≤ p .session .at + 4500 ⌝ }
+{
+    if is_start(command) {
+        return starts(p, command, v, w, u, xi, out);
+    }
+    aside(p, command, u, xi, out)
+}
 
 // What a command says is done, with the floats of its line.
 fn does(
@@ -27,10 +57,7 @@ fn does(
 {
     match command {
         Command::Answer(given) => answers(p, reply(given), v, u, xi, out),
-        Command::Bad => aside(p, command, u, xi, out),
-        Command::Lend(_, _) => aside(p, command, u, xi, out),
-        Command::Show => aside(p, command, u, xi, out),
-        _ => starts(p, command, v, w, u, xi, out),
+        _ => unanswered(p, command, v, w, u, xi, out),
     }
 }
 

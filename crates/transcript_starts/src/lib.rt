@@ -16,12 +16,12 @@ use transcript_lines::lent::clear;
 use transcript_lines::lent::keep;
 use transcript_lines::output::least;
 use transcript_state::Play;
+use transcript_state::asides::bad;
 use transcript_state::opens;
 use transcript_state::with_d_psi;
 use transcript_state::with_inner;
 use transcript_state::with_loop;
 use transcript_state::with_psi;
-use word_printing::put_word;
 
 // A start of an inner solve, which lends u.
 fn start_inner(p: Play, set: InnerStart, v: &[f64], out: &mut [u8]) -> Play
@@ -70,17 +70,6 @@ fn start_d_psi(p: Play, set: PsiStart, v: &[f64], w: &[f64], out: &mut [u8]) -> 
     let run = r.run;
     let t = with_d_psi(p, run, at);
     opens(t, transcript_state::D_PSI, least(sizes.n, 128), w.len())
-}
-
-// A line of another form.
-pub fn bad(p: Play, out: &mut [u8]) -> Play
-    requires { ⌜ p .session .at + 4500 ≤ length (now out) ⌝ }
-    ensures { λ r. ⌜ r .at ≤ p .session .at + 4500 ⌝ }
-{
-    let mut r = p;
-    let at = put_word(b"bad", out, p.session.at);
-    r.at = at;
-    r
 }
 
 // A start of psi or d_psi.

@@ -1,5 +1,8 @@
 // What the transcript program keeps from line to line.
 ghost use mathlib.Core.Path.{_≡_};
+
+pub mod asides;
+
 use alm_core::alm_cache::AlmRun;
 use factory::alm_factory::DPsiRun;
 use factory::alm_factory::PsiRun;

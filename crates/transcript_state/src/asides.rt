@@ -1,21 +1,21 @@
 // A line that starts nothing and answers nothing: lend, show, or one of another form.
 ghost use Prim.Native.Nat.{_+_, _≤_};
 ghost use lib.ListN.{length};
+use crate::Play;
+use crate::opens;
 use line_starts::command::Command;
 use transcript_lines::lent::clear;
 use transcript_lines::lent::put_lengths;
 use transcript_lines::lent::put_lent;
-use transcript_starts::bad;
-use transcript_state::Play;
-use transcript_state::opens;
+use word_printing::put_word;
 
 // How many places are lent after lend: psi lends nothing, d_psi its result alone, the others u and xi. Places past the old ends hold 0.
 fn relent(p: Play, us: usize, xis: usize, u: &mut [f64], xi: &mut [f64]) -> Play {
-    if p.kind == transcript_state::PSI {
+    if p.kind == crate::PSI {
         return p;
     }
     clear(u, p.us);
-    if p.kind == transcript_state::D_PSI {
+    if p.kind == crate::D_PSI {
         return opens(p, p.kind, us, p.xis);
     }
     clear(xi, p.xis);
@@ -23,10 +23,12 @@ fn relent(p: Play, us: usize, xis: usize, u: &mut [f64], xi: &mut [f64]) -> Play
 }
 
 // lend
-fn lend(p: Play, us: usize, xis: usize, u: &mut [f64], xi: &mut [f64], out: &mut [u8]) -> Play
+fn lend(p: Play, a: u64, b: u64, u: &mut [f64], xi: &mut [f64], out: &mut [u8]) -> Play
     requires { ⌜ p .session .at + 4500 ≤ length (now out) ⌝ }
     ensures { λ r. ⌜ r .at ≤ p .session .at + 4500 ⌝ }
 {
+    let us = a as usize;
+    let xis = b as usize;
     let mut r = relent(p, us, xis, u, xi);
     let at = put_lengths(us, xis, out, p.session.at);
     r.at = at;
@@ -44,14 +46,35 @@ fn show(p: Play, u: &[f64], xi: &[f64], out: &mut [u8]) -> Play
     r
 }
 
+// A line of another form.
+pub fn bad(p: Play, out: &mut [u8]) -> Play
+    requires { ⌜ p .session .at + 4500 ≤ length (now out) ⌝ }
+    ensures { λ r. ⌜ r .at ≤ p .session .at + 4500 ⌝ }
+{
+    let mut r = p;
+    let at = put_word(b"bad", out, p.session.at);
+    r.at = at;
+    r
+}
+
+// show, or another form.
+fn tells(p: Play, command: Command, u: &[f64], xi: &[f64], out: &mut [u8]) -> Play
+    requires { ⌜ (p .session .at + 4500 ≤ length (now out)) × (length (now u) ≤ 128) × (length (now xi) ≤ 128) ⌝ }
+    ensures { λ r. ⌜ r .at ≤ p .session .at + 4500 ⌝ }
+{
+    match command {
+        Command::Show => show(p, u, xi, out),
+        _ => bad(p, out),
+    }
+}
+
 // What such a command says is done.
 pub fn aside(p: Play, command: Command, u: &mut [f64], xi: &mut [f64], out: &mut [u8]) -> Play
     requires { ⌜ (p .session .at + 4500 ≤ length (now out)) × (length (now u) ≤ 128) × (length (now xi) ≤ 128) ⌝ }
     ensures { λ r. ⌜ r .at ≤ p .session .at + 4500 ⌝ }
 {
     match command {
-        Command::Lend(a, b) => lend(p, a as usize, b as usize, u, xi, out),
-        Command::Show => show(p, u, xi, out),
-        _ => bad(p, out),
+        Command::Lend(a, b) => lend(p, a, b, u, xi, out),
+        _ => tells(p, command, u, xi, out),
     }
 }
