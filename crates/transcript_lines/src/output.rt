@@ -1,12 +1,9 @@
 // What several kinds of runs print alike.
 ghost use mathlib.Core.Path.{_≡_};
-ghost use Prim.Native.Nat.{_+_, _*_, _≤_};
+ghost use Prim.Native.Nat.{_+_, _≤_};
 ghost use lib.ListN.{length};
 use line_printing::put_counted;
-use line_printing::put_point;
 use panoc_core::panoc_cache::ExitStatus;
-use panoc_core::panoc_cache::Question;
-use word_printing::put_word;
 
 // The smaller of two.
 pub fn least(a: usize, b: usize) -> usize
@@ -53,39 +50,4 @@ pub fn put_end(end: ExitStatus, count: usize, out: &mut [u8], at: usize) -> usiz
             put_counted(b"ended NotConvergedOutOfTime ", n, out, at)
         }
     }
-}
-
-// A question of the inner solve, with its points.
-pub fn put_question(question: Question, p: &[f64], q: &[f64], out: &mut [u8], at: usize) -> usize
-    requires { ⌜ at + 64 + 17 * (length (now p) + length (now q)) ≤ length (now out) ⌝ }
-    ensures { λ r. ⌜ r ≤ at + 64 + 17 * (length (now (p .entry)) + length (now (q .entry))) ⌝ }
-{
-    match question {
-        Question::Cost => put_point(b"cost", p, out, at),
-        Question::Gradient => put_point(b"gradient", p, out, at),
-        Question::Project => put_point(b"project", p, out, at),
-        Question::Direction(forget) => put_direction(forget, p, q, out, at),
-        Question::Time => put_word(b"time", out, at),
-    }
-}
-
-// direction FORGET R... u U...
-fn put_direction(forget: bool, p: &[f64], q: &[f64], out: &mut [u8], at: usize) -> usize
-    requires { ⌜ at + 64 + 17 * (length (now p) + length (now q)) ≤ length (now out) ⌝ }
-    ensures { λ r. ⌜ r ≤ at + 64 + 17 * (length (now (p .entry)) + length (now (q .entry))) ⌝ }
-{
-    if forget {
-        put_two(b"direction 1", p, b" u", q, out, at)
-    } else {
-        put_two(b"direction 0", p, b" u", q, out, at)
-    }
-}
-
-// WORD P... WORD Q...
-pub fn put_two(word: &[u8], p: &[f64], then: &[u8], q: &[f64], out: &mut [u8], at: usize) -> usize
-    requires { ⌜ (length (now word) ≤ 16) × (length (now then) ≤ 16) × (at + 64 + 17 * (length (now p) + length (now q)) ≤ length (now out)) ⌝ }
-    ensures { λ r. ⌜ r ≤ at + 64 + 17 * (length (now (p .entry)) + length (now (q .entry))) ⌝ }
-{
-    let next = put_point(word, p, out, at);
-    put_point(then, q, out, next)
 }

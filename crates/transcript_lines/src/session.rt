@@ -1,4 +1,4 @@
-// What is kept from line to line, besides the run: the places in the buffers, and how many places are lent.
+// What is kept from line to line of the buffers: the places in them.
 ghost use mathlib.Core.Path.{_≡_};
 ghost use Prim.Native.Nat.{_+_, _≤_};
 ghost use lib.ListN.{length};
@@ -6,21 +6,19 @@ ghost use Rattle.transcript_lines.specs.Within.{Within};
 use libc::STDOUT_FILENO;
 
 // The line at hand stands from from to end where whole says that there is one, the next one begins at next, and have bytes were read; what is printed ends
-// at at; us places of u and xis of xi are lent. skip: a line that is too long is being passed over. more: the input goes on.
+// at at. skip: a line that is too long is being passed over. more: the input goes on.
 pub struct Session {
     pub from: usize,
     pub end: usize,
     pub next: usize,
     pub have: usize,
     pub at: usize,
-    pub us: usize,
-    pub xis: usize,
     pub whole: bool,
     pub skip: bool,
     pub more: bool,
 }
 
-// Nothing is read, printed or lent.
+// Nothing is read or printed.
 pub fn opened() -> Session
     ensures { λ r. ⌜ Within r 0 4608 ⌝ }
 {
@@ -30,8 +28,6 @@ pub fn opened() -> Session
         next: 0,
         have: 0,
         at: 0,
-        us: 0,
-        xis: 0,
         whole: false,
         skip: false,
         more: true,

@@ -1,121 +1,128 @@
-// The multiplier loops of the transcript program: each from its start to the next start, line by line.
-ghost use Prim.Native.Nat.{_≤_, _<_};
+// What the transcript program prints of a call of the loop.
+ghost use Prim.Native.Nat.{_+_, _*_, _≤_};
 ghost use lib.ListN.{length};
-ghost use Rattle.transcript_lines.specs.Within.{Within};
-
-pub mod calls;
-pub mod printing;
-
+use alm_core::alm_cache::Alm;
+use alm_core::alm_cache::AlmAnswered;
+use alm_core::alm_cache::AlmOptimizerStatus;
+use alm_core::alm_cache::AlmOutcome;
+use alm_core::alm_cache::AlmQuestion;
 use alm_core::alm_cache::AlmRun;
-use alm_core::alm_cache::AlmSettings;
-use calls::answer_line;
-use calls::start_line;
-use line_starts::command::Command;
-use line_starts::command::LoopStart;
-use transcript_lines::asides::Lends;
-use transcript_lines::asides::aside;
-use transcript_lines::lines::next;
-use transcript_lines::reading::Hand;
-use transcript_lines::reading::at_hand;
-use transcript_lines::reading::read;
-use transcript_lines::session::Session;
+use alm_points::first_places;
+use alm_points::points;
+use alm_points::second_places;
+use line_printing::put_counted;
+use line_printing::put_floats;
+use panoc_core::panoc_cache::Question;
+use transcript_lines::names;
+use transcript_lines::names::put_named;
+use transcript_lines::output::least;
+use transcript_lines::output::places;
+use transcript_lines::output::put_end;
+use transcript_lines::output::put_failed;
+use transcript_lines::output::put_refused;
 
-// The settings of the loop.
-fn settings(s: LoopStart) -> AlmSettings {
-    AlmSettings {
-        n: s.n as usize,
-        n1: s.n1 as usize,
-        n2: s.n2 as usize,
-        has_set_y: s.y,
-        max_inner_iterations: s.m as usize,
-        max_outer_iterations: s.k as usize,
-        limited: s.limited,
-        tolerance: s.tolerance,
-        epsilon_tolerance: s.epsilon,
-        delta_tolerance: s.delta,
-        initial_inner_tolerance: s.akkt,
-        penalty_update_factor: s.penalty,
-        epsilon_update_factor: s.factor,
-        sufficient_decrease_coeff: s.coefficient,
+// How many places the second point of the question has; a run of a start that was accepted has n1 at most 32.
+fn seconds(s: Alm) -> usize {
+    if 32 < s.set.n1 {
+        return 0;
     }
+    second_places(s)
 }
 
-// The lines of a loop, up to the next start. It counts its turns down, from a number that no run uses up, so that it ends.
-fn play(
-    begun: AlmRun,
-    session: Session,
-    buf: &mut [u8],
-    u: &mut [f64],
-    xi: &mut [f64],
-    out: &mut [u8],
-) -> Session
-    requires { ⌜ Within session (length (now buf)) (length (now out)) ⌝ }
-    requires { ⌜ (4608 ≤ length (now buf)) × (length (now buf) < 100000) × (length (now u) ≤ 128) × (length (now xi) ≤ 128) ⌝ }
-    ensures { λ r. ⌜ Within r (length (now (buf .entry))) (length (now (out .entry))) ⌝ }
+// What a call gave.
+pub fn put_answered(r: AlmAnswered, out: &mut [u8], at: usize) -> usize
+    requires { ⌜ at + 4500 ≤ length (now out) ⌝ }
+    ensures { λ e. ⌜ e ≤ at + 4500 ⌝ }
 {
-    let mut run = begun;
-    let mut s = session;
-    let mut turns = u64::MAX;
-    while turns > 0 {
-        turns -= 1;
-        s = next(s, buf, out);
-        let hand = at_hand(s, buf);
-        match hand {
-            Hand::Nothing => {}
-            Hand::Answer => {
-                let r = answer_line(run, s, buf, u, xi, out);
-                let after = r.run;
-                run = after;
-                let then = r.session;
-                s = then;
-            }
-            Hand::Aside => {
-                s = aside(s, Lends::Both, buf, u, xi, out);
-            }
-            Hand::Leave => return s,
+    let outcome = r.outcome;
+    match outcome {
+        AlmOutcome::Asked(question) => {
+            let run = r.run;
+            put_asked(run, question, out, at)
         }
+        AlmOutcome::Ended(status) => put_ended(status, out, at),
+        AlmOutcome::Refused(number) => put_refused(number, out, at),
+        AlmOutcome::Failed(code) => put_failed(code, out, at),
     }
-    s
 }
 
-// A start, and the lines of its run.
-fn start(
-    s: Session,
-    set: AlmSettings,
-    v: &[f64],
-    w: &[f64],
-    buf: &mut [u8],
-    u: &mut [f64],
-    xi: &mut [f64],
+// A question, with its points.
+fn put_asked(run: AlmRun, question: AlmQuestion, out: &mut [u8], at: usize) -> usize
+    requires { ⌜ at + 4500 ≤ length (now out) ⌝ }
+    ensures { λ r. ⌜ r ≤ at + 4500 ⌝ }
+{
+    let s = run.alm;
+    let n = least(first_places(s), 64);
+    let m = least(seconds(s), 64);
+    let mut p = places();
+    let mut q = places();
+    put_points(run, question, &mut p[..n], &mut q[..m], out, at)
+}
+
+// The same, with the points that the run gives into slices of their lengths.
+fn put_points(
+    run: AlmRun,
+    question: AlmQuestion,
+    p: &mut [f64],
+    q: &mut [f64],
     out: &mut [u8],
-) -> Session
-    requires { ⌜ Within s (length (now buf)) (length (now out)) ⌝ }
-    requires { ⌜ (4608 ≤ length (now buf)) × (length (now buf) < 100000) × (length (now u) ≤ 128) × (length (now xi) ≤ 128) ⌝ }
-    ensures { λ r. ⌜ Within r (length (now (buf .entry))) (length (now (out .entry))) ⌝ }
+    at: usize,
+) -> usize
+    requires { ⌜ at + 64 + 17 * (length (now p) + length (now q)) ≤ length (now out) ⌝ }
+    ensures { λ r. ⌜ r ≤ at + 64 + 17 * (length (now (p .entry)) + length (now (q .entry))) ⌝ }
 {
-    let r = start_line(s, set, v, w, u, xi, out);
-    let run = r.run;
-    let t = r.session;
-    play(run, t, buf, u, xi, out)
+    points(run, p, q);
+    let next = put_named(name(question), p, out, at);
+    put_named(then(question), q, out, next)
 }
 
-// The line at hand, where it starts a loop, and the lines of that; else nothing is done.
-pub fn outer(s: Session, buf: &mut [u8], u: &mut [f64], xi: &mut [f64], out: &mut [u8]) -> Session
-    requires { ⌜ Within s (length (now buf)) (length (now out)) ⌝ }
-    requires { ⌜ (4608 ≤ length (now buf)) × (length (now buf) < 100000) × (length (now u) ≤ 128) × (length (now xi) ≤ 128) ⌝ }
-    ensures { λ r. ⌜ Within r (length (now (buf .entry))) (length (now (out .entry))) ⌝ }
-{
-    let mut v = [0.0; 128];
-    let mut w = [0.0; 128];
-    let said = read(s, buf, &mut v, &mut w);
-    let n = said.first;
-    let m = said.second;
-    let command = said.command;
-    match command {
-        Command::Loop(set) => {
-            let set = settings(set);
-            start(s, set, &v[..n], &w[..m], buf, u, xi, out)
-        }
-        _ => s,
+// The word of a question.
+fn name(question: AlmQuestion) -> usize {
+    match question {
+        AlmQuestion::Inner(inner) => names::name(inner),
+        AlmQuestion::Time => names::TIME,
+        AlmQuestion::ProjectY => names::PROJECT_Y,
+        AlmQuestion::F1 => names::F1,
+        AlmQuestion::ProjectC => names::PROJECT_C,
+        AlmQuestion::F2 => names::F2,
+        AlmQuestion::Cost => names::COST,
     }
+}
+
+// The word before its second point.
+fn then(question: AlmQuestion) -> usize {
+    match question {
+        AlmQuestion::Inner(inner) => carried(inner),
+        AlmQuestion::Cost => names::XI,
+        _ => names::NONE,
+    }
+}
+
+// The same of a question of the inner solve that the loop carries: COST and GRADIENT come with xi.
+fn carried(question: Question) -> usize {
+    match question {
+        Question::Cost => names::XI,
+        Question::Gradient => names::XI,
+        other => names::then(other),
+    }
+}
+
+// ended END OUTER INNER NORM COST C DELTA_Y F2
+fn put_ended(status: AlmOptimizerStatus, out: &mut [u8], at: usize) -> usize
+    requires { ⌜ at + 256 ≤ length (now out) ⌝ }
+    ensures { λ r. ⌜ r ≤ at + 256 ⌝ }
+{
+    let end = status.exit_status;
+    let outer = status.num_outer_iterations;
+    let inner = status.num_inner_iterations;
+    let next = put_end(end, outer.0, out, at);
+    let next = put_counted(b" ", inner.0 as u64, out, next);
+    let numbers = [
+        status.last_problem_norm_fpr,
+        status.cost,
+        status.penalty,
+        status.delta_y_norm,
+        status.f2_norm,
+    ];
+    put_floats(&numbers, out, next)
 }

@@ -1,17 +1,19 @@
 // What is printed of a call of psi; its questions are those of d_psi.
 ghost use Prim.Native.Nat.{_+_, _*_, _≤_};
 ghost use lib.ListN.{length};
+use factory::alm_factory::PsiAnswered;
 use factory::alm_factory::PsiOutcome;
 use factory::alm_factory::PsiQuestion;
 use factory::alm_factory::PsiRun;
 use factory::alm_factory::Sizes;
 use line_printing::put_point;
 use psi_points::points;
+use transcript_lines::names;
+use transcript_lines::names::put_named;
 use transcript_lines::output::least;
 use transcript_lines::output::places;
 use transcript_lines::output::put_failed;
 use transcript_lines::output::put_refused;
-use transcript_lines::output::put_two;
 
 // How many places the first point of a question has.
 pub fn first_places(question: PsiQuestion, sizes: Sizes) -> usize {
@@ -30,17 +32,49 @@ pub fn second_places(question: PsiQuestion, sizes: Sizes) -> usize {
     }
 }
 
-// What a call gave.
-pub fn put_outcome(run: PsiRun, outcome: PsiOutcome, out: &mut [u8], at: usize) -> usize
-    requires { ⌜ at + 4500 ≤ length (now out) ⌝ }
-    ensures { λ r. ⌜ r ≤ at + 4500 ⌝ }
+// The word of a question.
+pub fn name(question: PsiQuestion) -> usize {
+    match question {
+        PsiQuestion::Cost => names::COST,
+        PsiQuestion::Gradient => names::GRADIENT,
+        PsiQuestion::F1 => names::F1,
+        PsiQuestion::ProjectC => names::PROJECT_C,
+        PsiQuestion::Jf1t => names::JF1T,
+        PsiQuestion::F2 => names::F2,
+        PsiQuestion::Jf2t => names::JF2T,
+    }
+}
+
+// The word before its second point.
+pub fn then(question: PsiQuestion) -> usize {
+    match question {
+        PsiQuestion::Jf1t => names::D,
+        PsiQuestion::Jf2t => names::D,
+        _ => names::NONE,
+    }
+}
+
+// ended VALUE
+fn put_ended(value: f64, out: &mut [u8], at: usize) -> usize
+    requires { ⌜ at + 64 ≤ length (now out) ⌝ }
+    ensures { λ r. ⌜ r ≤ at + 64 ⌝ }
 {
+    let numbers = [value];
+    put_point(b"ended", &numbers, out, at)
+}
+
+// What a call gave.
+pub fn put_answered(r: PsiAnswered, out: &mut [u8], at: usize) -> usize
+    requires { ⌜ at + 4500 ≤ length (now out) ⌝ }
+    ensures { λ e. ⌜ e ≤ at + 4500 ⌝ }
+{
+    let outcome = r.outcome;
     match outcome {
-        PsiOutcome::Asked(question) => put_asked(run, question, out, at),
-        PsiOutcome::Ended(value) => {
-            let numbers = [value];
-            put_point(b"ended", &numbers, out, at)
+        PsiOutcome::Asked(question) => {
+            let run = r.run;
+            put_asked(run, question, out, at)
         }
+        PsiOutcome::Ended(value) => put_ended(value, out, at),
         PsiOutcome::Refused(number) => put_refused(number, out, at),
         PsiOutcome::Failed(code) => put_failed(code, out, at),
     }
@@ -72,27 +106,6 @@ fn put_points(
     ensures { λ r. ⌜ r ≤ at + 64 + 17 * (length (now (p .entry)) + length (now (q .entry))) ⌝ }
 {
     points(run, p, q);
-    put_psi_question(question, p, q, out, at)
-}
-
-// A question of psi or d_psi, with its points.
-pub fn put_psi_question(
-    question: PsiQuestion,
-    p: &[f64],
-    q: &[f64],
-    out: &mut [u8],
-    at: usize,
-) -> usize
-    requires { ⌜ at + 64 + 17 * (length (now p) + length (now q)) ≤ length (now out) ⌝ }
-    ensures { λ r. ⌜ r ≤ at + 64 + 17 * (length (now (p .entry)) + length (now (q .entry))) ⌝ }
-{
-    match question {
-        PsiQuestion::Cost => put_point(b"cost", p, out, at),
-        PsiQuestion::Gradient => put_point(b"gradient", p, out, at),
-        PsiQuestion::F1 => put_point(b"f1", p, out, at),
-        PsiQuestion::ProjectC => put_point(b"project_c", p, out, at),
-        PsiQuestion::Jf1t => put_two(b"jf1t", p, b" d", q, out, at),
-        PsiQuestion::F2 => put_point(b"f2", p, out, at),
-        PsiQuestion::Jf2t => put_two(b"jf2t", p, b" d", q, out, at),
-    }
+    let next = put_named(name(question), p, out, at);
+    put_named(then(question), q, out, next)
 }

@@ -11,26 +11,20 @@ least-requires c κs = search needs
 least-requires-2 : tie.Need-least-requires-2
 least-requires-2 c κs = search needs
 
-slice-aggregate-put-two : tie.Need-slice-aggregate-put-two
-slice-aggregate-put-two c = search needs
+slice-aggregate-put-both : tie.Need-slice-aggregate-put-both
+slice-aggregate-put-both c = firsts _ _ (omega arith)
 
-slice-aggregate-put-two-2 : tie.Need-slice-aggregate-put-two-2
-slice-aggregate-put-two-2 c = firsts _ _ (omega arith)
+slice-aggregate-put-both-2 : tie.Need-slice-aggregate-put-both-2
+slice-aggregate-put-both-2 c = firsts _ _ (omega arith)
 
-slice-aggregate-put-two-3 : tie.Need-slice-aggregate-put-two-3
-slice-aggregate-put-two-3 c = search needs
-
-slice-aggregate-put-two-4 : tie.Need-slice-aggregate-put-two-4
-slice-aggregate-put-two-4 c = firsts _ _ (omega arith)
-
-put-two-requires : tie.Need-put-two-requires
-put-two-requires c κs = (search needs, search needs, omega (arith, firsts (c .before .before .before .before .before .before .least .result) (c .before .before .before .before .before .before .before .before .before .before .args .u .now) (omega arith), firsts (c .before .before .before .before .before .least2 .result) (c .before .before .before .before .before .before .before .before .before .before .args .xi .now) (omega arith)))
+put-both-requires : tie.Need-put-both-requires
+put-both-requires c κs = omega (arith, firsts (c .before .before .before .before .least .result) (c .before .before .before .before .before .before .before .before .args .u .now) (omega arith), firsts (c .before .before .before .least2 .result) (c .before .before .before .before .before .before .before .before .args .xi .now) (omega arith))
 
 same-length : tie.Need-same-length
 same-length c = search needs
 
 returns : tie.Need-returns
-returns c = omega (arith, c .before .before .put-two .ensures, firsts (c .before .before .before .before .before .before .before .before .before .least .result) (c .before .before .before .before .before .before .before .before .before .before .before .before .before .args .u .now) (omega arith), firsts (c .before .before .before .before .before .before .before .before .least2 .result) (c .before .before .before .before .before .before .before .before .before .before .before .before .before .args .xi .now) (omega arith))
+returns c = omega (arith, c .before .before .put-both .ensures, firsts (c .before .before .before .before .before .before .before .least .result) (c .before .before .before .before .before .before .before .before .before .before .before .args .u .now) (omega arith), firsts (c .before .before .before .before .before .before .least2 .result) (c .before .before .before .before .before .before .before .before .before .before .before .args .xi .now) (omega arith))
 
 pub put-lent-spec : {M : Type 1} → statement M
 put-lent-spec =
@@ -38,10 +32,8 @@ put-lent-spec =
     (tie.spec
     least-requires
     least-requires-2
-    slice-aggregate-put-two
-    slice-aggregate-put-two-2
-    slice-aggregate-put-two-3
-    slice-aggregate-put-two-4
-    put-two-requires
+    slice-aggregate-put-both
+    slice-aggregate-put-both-2
+    put-both-requires
     same-length
     returns)
