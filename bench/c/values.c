@@ -1,4 +1,6 @@
-/* values [ROUNDS]: the time of the calls by value, called inside Rattle (crate values). */
+/* values [ROUNDS]: the time of the calls by value, called inside Rattle (crate values), the least and the most over 16 places of the stack: copies of runs are
+   slower where source and target lie alike in their pages. */
+#include <alloca.h>
 #include <stdint.h>
 #include <stdio.h>
 #include <stdlib.h>
@@ -48,9 +50,11 @@ static const struct {
     {"d_psi, start and points", 1, d_psi_start},       {"d_psi, answer", 2, d_psi_answer},       {"d_psi, points", 1, d_psi_points},
 };
 
-/* ns a call, the least of the rounds; below 0 where a loop went wrong. */
-static double timed(size_t call, size_t n, size_t rounds) {
+/* ns a call, the least of the rounds, with the stack so many bytes further down; below 0 where a loop went wrong. */
+static double timed(size_t call, size_t n, size_t rounds, size_t down) {
+  volatile char *room = alloca(down + 1);
   double least = 1e30;
+  room[0] = 0;
   for (size_t i = 0; i < rounds; i++) {
     const double began = now_ns();
     if (calls[call].turns(n) != 0) return -1;
@@ -61,7 +65,7 @@ static double timed(size_t call, size_t n, size_t rounds) {
 }
 
 int main(int words, char **word) {
-  const size_t rounds = words > 1 ? strtoul(word[1], NULL, 10) : 200, sizes[] = {4, 16, 24, 64};
+  const size_t rounds = words > 1 ? strtoul(word[1], NULL, 10) : 10, sizes[] = {4, 16, 24, 64};
   for (size_t i = 0; i < 64; i++) {
     v[i] = 0.5 + (double)i / 100;
     w[i] = 0.25 - (double)i / 90;
@@ -71,12 +75,17 @@ int main(int words, char **word) {
   for (size_t i = 0; i < sizeof calls / sizeof *calls; i++) {
     printf("| %s |", calls[i].name);
     for (size_t j = 0; j < sizeof sizes / sizeof *sizes; j++) {
-      const double ns = timed(i, sizes[j], rounds);
-      if (ns < 0) {
-        fprintf(stderr, "values: %s at n = %zu did not go as it should\n", calls[i].name, sizes[j]);
-        return 1;
+      double least = 1e30, most = 0;
+      for (size_t down = 0; down < 4096; down += 256) {
+        const double ns = timed(i, sizes[j], rounds, down);
+        if (ns < 0) {
+          fprintf(stderr, "values: %s at n = %zu did not go as it should\n", calls[i].name, sizes[j]);
+          return 1;
+        }
+        if (ns < least) least = ns;
+        if (ns > most) most = ns;
       }
-      printf(" %.0f |", ns);
+      printf(" %.0f to %.0f |", least, most);
     }
     puts("");
   }

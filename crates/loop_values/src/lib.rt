@@ -1,5 +1,5 @@
-// The multiplier loop by value.
-use crate::inner_calls::reply_to;
+// Loops of by-value calls of the multiplier loop, to be timed by bench/values.sh; apart from those of the inner solve, since what both use would be compiled once for
+// both, as a call of its own. They are proved safe, and say nothing of what they give.
 use alm::alm_optimizer::answer;
 use alm_core::alm_cache::AlmOutcome;
 use alm_core::alm_cache::AlmQuestion;
@@ -7,6 +7,7 @@ use alm_core::alm_cache::AlmSettings;
 use alm_points::points;
 use alm_starts::start;
 use panoc_core::panoc_cache::Reply;
+use values::inner_calls::reply_to;
 
 // Settings under which a run goes on for long, with no F1 and one F2.
 fn settings(n: usize) -> AlmSettings {

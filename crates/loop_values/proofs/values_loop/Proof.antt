@@ -1,11 +1,11 @@
--- `values::loop_calls::values_loop` is safe and ends. Assumes nothing.
+-- `loop_values::values_loop` is safe and ends. Assumes nothing.
 use native.Mathlib.Omega.{arith}
 use mathlib.Core.Path.{_≡_, _∙_}
 use Prim.Native.Nat.{_-_}
 use lib.ListN.{length}
 use borrow.Author.Needs.{needs}
-use Rattle.values.proofs.loop_calls.values_loop.Statement.{statement}
-use Rattle.values.proofs.loop_calls.values_loop.Tie as tie
+use Rattle.loop_values.proofs.values_loop.Statement.{statement}
+use Rattle.loop_values.proofs.values_loop.Tie as tie
 
 abbrev Inv-loop : tie.InvT-loop
 Inv-loop n turns v w xi₀ plan₀ o₀ run₀ i₀ xi plan o run i = (length xi ≡ length xi₀) × (length plan ≡ length plan₀)
