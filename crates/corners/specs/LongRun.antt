@@ -1,7 +1,6 @@
 -- An inner solve with M = 1 that spends all its 86 questions and accepts the eleventh candidate. Assumes nothing.
-use Prim.Native.Nat.{_-_, _^_}
 use mathlib.Core.Path.{_≡_, refl}
-use mathlib.Core.List.{List, [], _∷_}
+use mathlib.Core.List.{[], _∷_}
 use lib.Ieee.{binary64}
 use lib.ListN.{length}
 use Rattle.ieee.specs.Numbers.{null}
@@ -9,7 +8,7 @@ use Rattle.model.specs.Process.{handed, notConvergedIterations}
 use Rattle.model.specs.Refusals.{startInner}
 use Rattle.model.specs.Play.{scored, ended}
 use Rattle.model.specs.Script.{_/2^_, number, COST, says, _▷_, answersIn, Goes, allInner}
-use Rattle.model.specs.LongRun.{Transcript, settings, start, stepped, spent, rounds, tries}
+use Rattle.model.specs.LongRun.{Transcript, settings, start, stepped, spent}
 
 -- the eleventh candidate is accepted
 pub accepted : Transcript

@@ -1,17 +1,16 @@
 -- Inner solves with M = 1 that spend all their 86 questions: ten doublings in each of two steps, and eleven candidates. Assumes nothing.
 use Prim.Native.Nat.{ℕ, zero, suc, _+_, _-_, _*_, _^_}
-use mathlib.Core.Path.{_≡_, refl}
+use mathlib.Core.Path.{refl}
 use mathlib.Core.Bool.{true}
 use mathlib.Core.List.{List, [], _∷_}
 use mathlib.Core.Option.{none}
 use lib.Ieee.{Float, binary64, neg}
-use lib.ListN.{length}
 use Rattle.ieee.specs.Numbers.{null}
 use Rattle.model.specs.Process.{Question, Handed, handed, notConvergedIterations}
 use Rattle.model.specs.State.{Settings}
 use Rattle.model.specs.Refusals.{startInner}
 use Rattle.model.specs.Play.{scored, began, ended}
-use Rattle.model.specs.Script.{int, _·2^_, _/2^_, only, number, vector, yea, COST, GRADIENT, PROJECT, DIRECTION, TIME, Entry, says, _▷_, answersIn, Goes, allInner}
+use Rattle.model.specs.Script.{int, _·2^_, _/2^_, only, number, vector, yea, COST, GRADIENT, PROJECT, DIRECTION, TIME, Entry, says, _▷_, Goes, allInner}
 
 -- of an inner solve
 abbrev pub Transcript : Type 0
@@ -26,15 +25,15 @@ abbrev pub start : List Float
 start = only (1125898780943843 /2^ 30)
 
 -- 1048576 - 2^-k
-abbrev pub near : ℕ → List Float
+abbrev near : ℕ → List Float
 near k = only ((2 ^ (20 + k) - 1) /2^ k)
 
 -- 1048576 - 2^-10 - 2^-(10 + k)
-abbrev pub nearer : ℕ → List Float
+abbrev nearer : ℕ → List Float
 nearer k = only (((2 ^ 30 - 1) * 2 ^ k - 1) /2^ (10 + k))
 
 -- the candidate for τ = 2^-j: 1048576 - 2^-10 - 2^-20 - 2^-j
-abbrev pub candidate : ℕ → List Float
+abbrev candidate : ℕ → List Float
 candidate j = only ((2 ^ 40 - 1025 - 2 ^ (20 - j)) /2^ 20)
 
 -- a gradient step from there
@@ -42,16 +41,16 @@ abbrev pub stepped : ℕ → List Float
 stepped j = only ((2 ^ 39 - 513 - 2 ^ (19 - j)) /2^ 19)
 
 -- a half step 2^-8 further on, so that the candidate is above what it is held to
-abbrev pub missed : ℕ → List Float
+abbrev missed : ℕ → List Float
 missed j = only ((2 ^ 39 - 2561 - 2 ^ (19 - j)) /2^ 19)
 
 -- c rounds of doubling from γ = 2^-k on: the half step is the gradient step, and costs too much
-unfoldable pub rounds : (ℕ → List Float) → ℕ → ℕ → Transcript → Transcript
+rounds : (ℕ → List Float) → ℕ → ℕ → Transcript → Transcript
 rounds at k zero later = later
 rounds at k (suc c) later = PROJECT (at k) ▷ vector (at k) ∷ COST (at k) ▷ number (int 1) ∷ rounds at (suc k) c later
 
 -- c candidates from τ = 2^-j on, each above what it is held to
-unfoldable pub tries : ℕ → ℕ → Transcript → Transcript
+tries : ℕ → ℕ → Transcript → Transcript
 tries j zero later = later
 tries j (suc c) later =
     COST (candidate j) ▷ number (neg (int 1)) ∷ GRADIENT (candidate j) ▷ vector (only (int 1)) ∷ PROJECT (stepped j) ▷ vector (missed j) ∷ tries (suc j) c later
