@@ -22,8 +22,8 @@ pub mod Carry
 pub mod Refusing
 pub mod Starts
 pub mod Script
+pub mod EveryState
 pub mod Runs
-pub mod LongRun
 pub mod Tests
 pub mod Table
 pub mod Bench
