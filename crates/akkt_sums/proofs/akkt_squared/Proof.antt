@@ -1,4 +1,4 @@
--- `residual_sums::akkt_squared` meets its contract: each turn adds the square of a place of r + γ × (g - p). Assumes nothing.
+-- `akkt_sums::akkt_squared` meets its contract: each turn adds the square of a place of r + γ × (g - p). Assumes nothing.
 use Prim.Native.Nat.{_≤_, _-_}
 use mathlib.Core.Path.{_≡_, refl}
 use native.Mathlib.Omega.{arith}
@@ -7,8 +7,8 @@ use Rattle.ieee.specs.Sums.{squares}
 use Rattle.model.specs.Vectors.{minus, plusTimes}
 use Rattle.matrix_operations.specs.Firsts.{firsts}
 use Rattle.matrix_operations.specs.Laws.{firsts-grows, minus-grows, plusTimes-grows, squares-none, squares-turn}
-use Rattle.residual_sums.proofs.akkt_squared.Statement.{statement}
-use Rattle.residual_sums.proofs.akkt_squared.Tie as tie
+use Rattle.akkt_sums.proofs.akkt_squared.Statement.{statement}
+use Rattle.akkt_sums.proofs.akkt_squared.Tie as tie
 
 abbrev Inv-loop : tie.InvT-loop
 Inv-loop gamma r g p n s₀ i₀ s i = (i ≤ n) × (s ≡ squares binary64 (plusTimes binary64 gamma (firsts i r) (minus binary64 (firsts i g) (firsts i p))))

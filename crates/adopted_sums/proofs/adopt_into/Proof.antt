@@ -1,4 +1,4 @@
--- `residual_sums::adopt_into` meets its contract: each turn stores a place of w, and one of w - h. Assumes nothing.
+-- `adopted_sums::adopt_into` meets its contract: each turn stores a place of w, and one of w - h. Assumes nothing.
 use Prim.Native.Nat.{_≤_, _-_}
 use mathlib.Core.Path.{_≡_, refl}
 use native.Mathlib.Omega.{arith}
@@ -8,8 +8,8 @@ use lib.Ieee.{binary64}
 use Rattle.model.specs.Vectors.{minus}
 use Rattle.matrix_operations.specs.Firsts.{firsts}
 use Rattle.matrix_operations.specs.Laws.{firsts-grows, minus-grows, store-none, store-turn}
-use Rattle.residual_sums.proofs.adopt_into.Statement.{statement}
-use Rattle.residual_sums.proofs.adopt_into.Tie as tie
+use Rattle.adopted_sums.proofs.adopt_into.Statement.{statement}
+use Rattle.adopted_sums.proofs.adopt_into.Tie as tie
 
 abbrev Inv-loop : tie.InvT-loop
 Inv-loop w h u₀ r₀ n i₀ u r i = (i ≤ n) × (length u ≡ 64) × (length r ≡ 64) × (firsts i u ≡ firsts i w) × (firsts i r ≡ minus binary64 (firsts i w) (firsts i h))

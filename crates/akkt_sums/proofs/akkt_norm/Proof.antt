@@ -1,9 +1,9 @@
--- `residual_sums::akkt_norm` meets its contract: the root of the sum is the norm. Assumes nothing.
+-- `akkt_sums::akkt_norm` meets its contract: the root of the sum is the norm. Assumes nothing.
 use borrow.Author.Needs.{needs}
 use lib.Ieee.{binary64}
 use Rattle.matrix_operations.specs.Laws.{norm-root}
-use Rattle.residual_sums.proofs.akkt_norm.Statement.{statement}
-use Rattle.residual_sums.proofs.akkt_norm.Tie as tie
+use Rattle.akkt_sums.proofs.akkt_norm.Statement.{statement}
+use Rattle.akkt_sums.proofs.akkt_norm.Tie as tie
 
 akkt-squared-requires : tie.Need-akkt-squared-requires
 akkt-squared-requires c κs = search needs
