@@ -1,4 +1,4 @@
--- `point_updates::shift_into` meets its contract: each turn stores a place of the shifted u and adds the square of its shift, and the places from i on are as they were. Assumes nothing.
+-- `shift_updates::shift_into` meets its contract: each turn stores a place of the shifted u and adds the square of its shift, and the places from i on are as they were. Assumes nothing.
 use Prim.Native.Nat.{_≤_, _-_}
 use mathlib.Core.Path.{_≡_, refl, ap, ap₂, _∙_}
 use native.Mathlib.Omega.{arith}
@@ -9,8 +9,8 @@ use Rattle.ieee.specs.Sums.{squares}
 use Rattle.model.specs.Vectors.{shift, shifts, shifted}
 use Rattle.matrix_operations.specs.Firsts.{firsts}
 use Rattle.matrix_operations.specs.Laws.{firsts-grows, shifts-grows, shifted-grows, store-none, store-turn, kept-at, kept-turn, squares-none, squares-turn, norm-root}
-use Rattle.point_updates.proofs.shift_into.Statement.{statement}
-use Rattle.point_updates.proofs.shift_into.Tie as tie
+use Rattle.shift_updates.proofs.shift_into.Statement.{statement}
+use Rattle.shift_updates.proofs.shift_into.Tie as tie
 
 abbrev Inv-loop : tie.InvT-loop
 Inv-loop u₀ n s₀ i₀ u s i = (i ≤ n) × (length u ≡ 64) × (drop i u ≡ drop i u₀) × (firsts i u ≡ shifted binary64 (firsts i u₀)) × (s ≡ squares binary64 (shifts binary64 (firsts i u₀)))

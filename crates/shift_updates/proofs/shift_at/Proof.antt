@@ -1,9 +1,9 @@
--- `point_updates::shift_at` meets its contract: the test is that of `shift`. Assumes nothing.
+-- `shift_updates::shift_at` meets its contract: the test is that of `shift`. Assumes nothing.
 use lib.Ieee.{binary64}
 use Rattle.model.specs.Literals.{epsilonLipschitz-bits, deltaLipschitz-bits}
 use Rattle.matrix_operations.specs.Laws.{shift-above, shift-else}
-use Rattle.point_updates.proofs.shift_at.Statement.{statement}
-use Rattle.point_updates.proofs.shift_at.Tie as tie
+use Rattle.shift_updates.proofs.shift_at.Statement.{statement}
+use Rattle.shift_updates.proofs.shift_at.Tie as tie
 
 returns : tie.Need-returns
 returns c = shift-above binary64 _ _ (c .before .args .s) epsilonLipschitz-bits deltaLipschitz-bits (c .if1 .taken)

@@ -1,4 +1,4 @@
--- `point_updates::candidate_into` meets its contract: each turn stores a place of u - (1 - τ) × r - τ × d. Assumes nothing.
+-- `candidate_updates::candidate_into` meets its contract: each turn stores a place of u - (1 - τ) × r - τ × d. Assumes nothing.
 use Prim.Native.Nat.{_≤_, _-_}
 use mathlib.Core.Path.{_≡_, refl}
 use native.Mathlib.Omega.{arith}
@@ -9,8 +9,8 @@ use Rattle.model.specs.Literals.{one-bits}
 use Rattle.model.specs.Vectors.{lessTimes}
 use Rattle.matrix_operations.specs.Firsts.{firsts}
 use Rattle.matrix_operations.specs.Laws.{firsts-grows, lessTimes-grows, store-none, store-turn}
-use Rattle.point_updates.proofs.candidate_into.Statement.{statement}
-use Rattle.point_updates.proofs.candidate_into.Tie as tie
+use Rattle.candidate_updates.proofs.candidate_into.Statement.{statement}
+use Rattle.candidate_updates.proofs.candidate_into.Tie as tie
 
 abbrev Inv-loop : tie.InvT-loop
 Inv-loop tau u r d w₀ n rest i₀ w i = (i ≤ n) × (length w ≡ 64) × (firsts i w ≡ lessTimes binary64 tau (lessTimes binary64 rest (firsts i u) (firsts i r)) (firsts i d))
