@@ -1,11 +1,11 @@
--- `square_root::is_nearest` meets its contract: the laws of `proofs/Halves.antt`. Assumes nothing.
+-- `root_test::is_nearest` meets its contract: the laws of `proofs/Halves.antt`. Assumes nothing.
 use mathlib.Core.Path.{sym}
 use mathlib.Core.Bool.{true≢false}
 use borrow.Author.Needs.{needs}
 use borrow.Author.Tests.{ltb-true, ltb-false}
-use Rattle.square_root.proofs.Halves.{too-small, is-near, too-large}
-use Rattle.square_root.proofs.is_nearest.Statement.{statement}
-use Rattle.square_root.proofs.is_nearest.Tie as tie
+use Rattle.root_test.proofs.Halves.{too-small, is-near, too-large}
+use Rattle.root_test.proofs.is_nearest.Statement.{statement}
+use Rattle.root_test.proofs.is_nearest.Tie as tie
 
 product-requires : tie.Need-product-requires
 product-requires c κs = search needs

@@ -1,11 +1,11 @@
--- `square_root::guess` is safe and gives a number of 53 digits. Assumes nothing.
+-- `root_guess::guess` is safe and gives a number of 53 digits. Assumes nothing.
 use native.Mathlib.Omega.{arith}
 use borrow.Author.Needs.{needs}
 use lib.Ieee.{binary64}
 use Rattle.ieee.specs.Special.{no-nan}
 use Rattle.ieee.specs.Patterns.{no-nan-below}
-use Rattle.square_root.proofs.guess.Statement.{statement}
-use Rattle.square_root.proofs.guess.Tie as tie
+use Rattle.root_guess.proofs.guess.Statement.{statement}
+use Rattle.root_guess.proofs.guess.Tie as tie
 
 pattern-requires : tie.Need-pattern-requires
 pattern-requires c κs = search needs

@@ -1,9 +1,9 @@
--- `square_root::product` meets its contract. Assumes nothing.
+-- `root_test::product` meets its contract. Assumes nothing.
 use mathlib.Core.Path.{refl}
 use native.Mathlib.Omega.{arith}
-use Rattle.square_root.proofs.Halves.{product-le}
-use Rattle.square_root.proofs.product.Statement.{statement}
-use Rattle.square_root.proofs.product.Tie as tie
+use Rattle.root_test.proofs.Halves.{product-le}
+use Rattle.root_test.proofs.product.Statement.{statement}
+use Rattle.root_test.proofs.product.Tie as tie
 
 mul-result : tie.Need-mul-result
 mul-result c = omega (arith, product-le (c .args .a) (c .args .b) (c .pre .0) (c .pre .1))
