@@ -1,4 +1,4 @@
--- `vector_updates::multipliers_into` meets its contract: each turn stores a place of y + c × (v - p). Assumes nothing.
+-- `multiplier_updates::multipliers_into` meets its contract: each turn stores a place of y + c × (v - p). Assumes nothing.
 use Prim.Native.Nat.{_≤_, _-_}
 use mathlib.Core.Path.{_≡_, refl}
 use native.Mathlib.Omega.{arith}
@@ -8,8 +8,8 @@ use lib.Ieee.{binary64}
 use Rattle.model.specs.Vectors.{minus, plusTimes}
 use Rattle.matrix_operations.specs.Firsts.{firsts}
 use Rattle.matrix_operations.specs.Laws.{firsts-grows, minus-grows, plusTimes-grows, store-none, store-turn}
-use Rattle.vector_updates.proofs.multipliers_into.Statement.{statement}
-use Rattle.vector_updates.proofs.multipliers_into.Tie as tie
+use Rattle.multiplier_updates.proofs.multipliers_into.Statement.{statement}
+use Rattle.multiplier_updates.proofs.multipliers_into.Tie as tie
 
 abbrev Inv-loop : tie.InvT-loop
 Inv-loop c y v p r₀ n i₀ r i = (i ≤ n) × (length r ≡ 64) × (firsts i r ≡ plusTimes binary64 c (firsts i y) (minus binary64 (firsts i v) (firsts i p)))

@@ -1,4 +1,4 @@
--- `vector_updates::minus_into` meets its contract: each turn stores a place of a - b. Assumes nothing.
+-- `vector_differences::minus_into` meets its contract: each turn stores a place of a - b. Assumes nothing.
 use Prim.Native.Nat.{_≤_, _-_}
 use mathlib.Core.Path.{_≡_, refl}
 use native.Mathlib.Omega.{arith}
@@ -8,8 +8,8 @@ use lib.Ieee.{binary64}
 use Rattle.model.specs.Vectors.{minus}
 use Rattle.matrix_operations.specs.Firsts.{firsts}
 use Rattle.matrix_operations.specs.Laws.{firsts-grows, minus-grows, store-none, store-turn}
-use Rattle.vector_updates.proofs.minus_into.Statement.{statement}
-use Rattle.vector_updates.proofs.minus_into.Tie as tie
+use Rattle.vector_differences.proofs.minus_into.Statement.{statement}
+use Rattle.vector_differences.proofs.minus_into.Tie as tie
 
 abbrev Inv-loop : tie.InvT-loop
 Inv-loop a b r₀ n i₀ r i = (i ≤ n) × (length r ≡ 64) × (firsts i r ≡ minus binary64 (firsts i a) (firsts i b))

@@ -1,4 +1,4 @@
--- `vector_updates::add_times` meets its contract: each turn stores a place of r + γ × b, and the places from i on are as they were. Assumes nothing.
+-- `vector_additions::add_times` meets its contract: each turn stores a place of r + γ × b, and the places from i on are as they were. Assumes nothing.
 use Prim.Native.Nat.{_≤_, _-_}
 use mathlib.Core.Path.{_≡_, refl, ap₂}
 use native.Mathlib.Omega.{arith}
@@ -8,8 +8,8 @@ use lib.Ieee.{binary64, add}
 use Rattle.model.specs.Vectors.{plusTimes}
 use Rattle.matrix_operations.specs.Firsts.{firsts}
 use Rattle.matrix_operations.specs.Laws.{firsts-grows, plusTimes-grows, store-none, store-turn, kept-at, kept-turn}
-use Rattle.vector_updates.proofs.add_times.Statement.{statement}
-use Rattle.vector_updates.proofs.add_times.Tie as tie
+use Rattle.vector_additions.proofs.add_times.Statement.{statement}
+use Rattle.vector_additions.proofs.add_times.Tie as tie
 
 abbrev Inv-loop : tie.InvT-loop
 Inv-loop gamma b r₀ n i₀ r i = (i ≤ n) × (length r ≡ 64) × (drop i r ≡ drop i r₀) × (firsts i r ≡ plusTimes binary64 gamma (firsts i r₀) (firsts i b))
