@@ -78,7 +78,7 @@ pub fn on_project_c(
 {
     let n1 = s.set.n1;
     vector_copies::take_into(v, scratch);
-    vector_updates::multipliers_into(s.numbers.penalty, y, w, scratch, plus, n1);
+    multiplier_updates::multipliers_into(s.numbers.penalty, y, w, scratch, plus, n1);
     let delta = matrix_operations::norm2_diff(plus, y, n1);
     let mut t = s;
     t.numbers.delta_y_norm_plus = delta;

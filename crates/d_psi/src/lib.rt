@@ -49,7 +49,7 @@ fn add_product(c: f64, v: &[f64], gradient: &mut [f64; 64], work: &mut [f64; 64]
     ensures { λ _. ⌜ firsts n (now (gradient .exit)) ≡ plusTimes binary64 c (firsts n (now (gradient .entry))) (now (v .entry)) ⌝ }
 {
     vector_copies::take_into(v, work);
-    vector_updates::add_times(c, work, gradient, n);
+    vector_additions::add_times(c, work, gradient, n);
 }
 
 // The part of F1 is in the gradient: F2, or the end where there is none.
@@ -112,7 +112,7 @@ fn on_project_c(
 {
     let n1 = s.sizes.n1;
     vector_copies::take_into(v, work);
-    vector_updates::minus_into(t, work, d, n1);
+    vector_differences::minus_into(t, work, d, n1);
     to(s, DPsiPhase::Jf1t, DPsiOutcome::Asked(PsiQuestion::Jf1t))
 }
 

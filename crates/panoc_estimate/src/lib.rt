@@ -37,7 +37,7 @@ pub fn on_gradient(
     ensures { λ r. ⌜ ((b : Board) → Takes (solveOf (now (w .entry)) (now (k .entry)) (now (f .entry))) (setU (now (u .entry)) b) Reply.Vector (now (v .entry)) (stepOf r (now (w .exit)) (now (k .entry)) (now (f .exit))) (setU (now (u .exit)) (setGradient (now (gradient .exit)) b))) ⌝ }
 {
     vector_copies::take_into(v, gradient);
-    let norm_h = point_updates::shift_into(u, k[3]);
+    let norm_h = shift_updates::shift_into(u, k[3]);
     put_norm_h(norm_h, f);
     ask(3, 1, w)
 }

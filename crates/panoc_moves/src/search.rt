@@ -95,7 +95,7 @@ pub fn try_again(
     ensures { λ r. ⌜ ((b : Board) → Comes ((solveOf (now (w .entry)) (now (k .entry)) (now (f .entry))) .set) (retryOf (runOf (solveOf (now (w .entry)) (now (k .entry)) (now (f .entry))) (setU (now (u .entry)) (setFpr (now (fpr .entry)) (setDirection (now (direction .entry)) b)))) (firsts (getD (now (k .entry)) 3 0) (now (plus .entry))) (stateAt (solveOf (now (w .entry)) (now (k .entry)) (now (f .entry))) (setU (now (u .entry)) (setFpr (now (fpr .entry)) (setDirection (now (direction .entry)) b))))) (stepOf r (now (w .exit)) (now (k .exit)) (now (f .exit))) (setU (now (u .entry)) (setPlus (now (plus .exit)) (setFpr (now (fpr .entry)) (setDirection (now (direction .entry)) b))))) ⌝ }
 {
     let tau = f[6] / 2.0;
-    point_updates::candidate_into(tau, u, fpr, direction, plus, k[3]);
+    candidate_updates::candidate_into(tau, u, fpr, direction, plus, k[3]);
     put_search(tau, f[7], f);
     put_rounds(k[2] - 1, k);
     ask(12, 0, w)

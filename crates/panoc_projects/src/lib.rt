@@ -67,7 +67,7 @@ pub fn take_candidate(
     requires { ⌜ (Sound (solveOf (now w) (now k) (now f))) × («norm_squared» ≡ squares binary64 (minus binary64 (firsts (getD (now k) 3 0) (now plus)) (firsts (getD (now k) 3 0) (now half)))) × (product ≡ dot binary64 (firsts (getD (now k) 3 0) (now gradient)) (minus binary64 (firsts (getD (now k) 3 0) (now plus)) (firsts (getD (now k) 3 0) (now half)))) ⌝ }
     ensures { λ r. ⌜ ((b : Board) → Comes ((solveOf (now (w .entry)) (now (k .entry)) (now (f .entry))) .set) (I.onward binary64 (setOf (solveOf (now (w .entry)) (now (k .entry)) (now (f .entry)))) (endOf (solveOf (now (w .entry)) (now (k .entry)) (now (f .entry)))) (nextAt (solveOf (now (w .entry)) (now (k .entry)) (now (f .entry)))) (withU (firsts (getD (now (k .entry)) 3 0) (now (plus .entry))) (iterateAt (solveOf (now (w .entry)) (now (k .entry)) (now (f .entry))) (six (now (u .entry)) (now (gradient .entry)) (now (previous .entry)) (now (half .entry)) (now (fpr .entry)) (now (best .entry)) b)))) (stepOf r (now (w .exit)) (now (k .exit)) (now (f .exit))) (six (now (u .exit)) (now (gradient .entry)) (now (previous .exit)) (now (half .entry)) (now (fpr .exit)) (now (best .exit)) b)) ⌝ }
 {
-    residual_sums::adopt_into(plus, half, u, fpr, k[3]);
+    adopted_sums::adopt_into(plus, half, u, fpr, k[3]);
     let norm = numeric::sqrt(norm_squared);
     onward(
         norm,

@@ -59,7 +59,7 @@ pub fn exit_condition(
         if w[5] == 0 {
             return true;
         }
-        let x = residual_sums::akkt_norm(f[2], fpr, gradient, previous, n);
+        let x = akkt_sums::akkt_norm(f[2], fpr, gradient, previous, n);
         x < f[10]
     } else {
         false

@@ -1,3 +1,1 @@
-pub mod Halves
 pub mod Scaling
-pub mod Turns

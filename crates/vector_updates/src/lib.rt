@@ -1,22 +1,9 @@
-// Vectors worked out place by place of others, and written through a `&mut`.
+// Vectors worked out place by place of two others and a number, and written through a `&mut`.
 ghost use mathlib.Core.Path.{_≡_};
 ghost use Prim.Native.Nat.{_≤_};
 ghost use lib.Ieee.{binary64};
-ghost use Rattle.model.specs.Vectors.{minus, lessTimes, plusTimes, plusOver};
+ghost use Rattle.model.specs.Vectors.{lessTimes, plusOver};
 ghost use Rattle.matrix_operations.specs.Firsts.{firsts};
-
-// r = a - b
-pub fn minus_into(a: &[f64; 64], b: &[f64; 64], r: &mut [f64; 64], n: usize)
-    requires { ⌜ n ≤ 64 ⌝ }
-    ensures { λ _. ⌜ firsts n (now (r .exit)) ≡ minus binary64 (firsts n (now (a .entry))) (firsts n (now (b .entry))) ⌝ }
-{
-    let _ = matrix_operations::sized(r);
-    let mut i = 0;
-    while i < n {
-        r[i] = a[i] - b[i];
-        i += 1;
-    }
-}
 
 // r = a - γ × b
 pub fn less_times_into(a: &[f64; 64], gamma: f64, b: &[f64; 64], r: &mut [f64; 64], n: usize)
@@ -32,20 +19,6 @@ pub fn less_times_into(a: &[f64; 64], gamma: f64, b: &[f64; 64], r: &mut [f64; 6
     }
 }
 
-// r = r + γ × b
-pub fn add_times(gamma: f64, b: &[f64; 64], r: &mut [f64; 64], n: usize)
-    requires { ⌜ n ≤ 64 ⌝ }
-    ensures { λ _. ⌜ firsts n (now (r .exit)) ≡ plusTimes binary64 gamma (firsts n (now (r .entry))) (firsts n (now (b .entry))) ⌝ }
-{
-    let _ = matrix_operations::sized(r);
-    let mut i = 0;
-    while i < n {
-        let t = gamma * b[i];
-        r[i] = r[i] + t;
-        i += 1;
-    }
-}
-
 // r = a + b / c
 pub fn plus_over_into(c: f64, a: &[f64; 64], b: &[f64; 64], r: &mut [f64; 64], n: usize)
     requires { ⌜ n ≤ 64 ⌝ }
@@ -56,28 +29,6 @@ pub fn plus_over_into(c: f64, a: &[f64; 64], b: &[f64; 64], r: &mut [f64; 64], n
     while i < n {
         let t = b[i] / c;
         r[i] = a[i] + t;
-        i += 1;
-    }
-}
-
-// r = y + c × (v - p)
-pub fn multipliers_into(
-    c: f64,
-    y: &[f64; 64],
-    v: &[f64; 64],
-    p: &[f64; 64],
-    r: &mut [f64; 64],
-    n: usize,
-)
-    requires { ⌜ n ≤ 64 ⌝ }
-    ensures { λ _. ⌜ firsts n (now (r .exit)) ≡ plusTimes binary64 c (firsts n (now (y .entry))) (minus binary64 (firsts n (now (v .entry))) (firsts n (now (p .entry)))) ⌝ }
-{
-    let _ = matrix_operations::sized(r);
-    let mut i = 0;
-    while i < n {
-        let t = v[i] - p[i];
-        let s = c * t;
-        r[i] = y[i] + s;
         i += 1;
     }
 }
