@@ -17,12 +17,12 @@ use panoc_core::panoc_cache::Reply;
 use panoc_doubling::on_doubled_project;
 use panoc_estimate::on_gradient;
 use panoc_estimate::on_shifted;
-use panoc_moves::first::on_direction;
-use panoc_moves::first::on_first_gradient;
-use panoc_moves::search::on_tried_gradient;
+use panoc_first::on_direction;
+use panoc_first::on_first_gradient;
 use panoc_numbers::on_number;
 use panoc_projects::on_first_project;
 use panoc_projects::on_tried_project;
+use panoc_search::on_tried_gradient;
 use panoc_steps::on_project;
 use panoc_steps::timed;
 

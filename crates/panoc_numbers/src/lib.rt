@@ -13,8 +13,8 @@ use panoc_doubling::on_doubled_cost;
 use panoc_doubling::on_half_cost;
 use panoc_ends::on_last_cost;
 use panoc_estimate::on_cost;
-use panoc_moves::first::on_first_cost;
-use panoc_moves::search::on_tried_cost;
+use panoc_first::on_first_cost;
+use panoc_search::on_tried_cost;
 
 // A number that was asked for.
 pub fn on_number(

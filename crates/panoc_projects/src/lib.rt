@@ -12,8 +12,8 @@ ghost use Rattle.image.specs.Image.{phaseOf, solveOf, stepOf};
 use panoc_core::lipschitz_estimator::envelope;
 use panoc_core::panoc_cache::Phase;
 use panoc_core::panoc_cache::Reply;
-use panoc_moves::search::try_again;
-use panoc_moves::search::worse;
+use panoc_search::try_again;
+use panoc_search::worse;
 use panoc_steps::onward;
 
 // PROJECT of the first iterate gave v.

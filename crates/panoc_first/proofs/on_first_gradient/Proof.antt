@@ -6,10 +6,10 @@ use Rattle.image.specs.Image.{solveOf}
 use Rattle.panoc_core.specs.Laws.{sound-n, first-gradient-goes, first-gradient-stops}
 use Rattle.panoc_core.specs.Board.{setU, setGradient, setStep}
 use Rattle.image.specs.Stored.{step-as}
-use Rattle.panoc_moves.specs.Laws.{both-as, step-of}
+use Rattle.panoc_search.specs.Laws.{both-as, step-of}
 use borrow.Author.Needs.{needs}
-use Rattle.panoc_moves.proofs.first.on_first_gradient.Statement.{statement}
-use Rattle.panoc_moves.proofs.first.on_first_gradient.Tie as tie
+use Rattle.panoc_first.proofs.on_first_gradient.Statement.{statement}
+use Rattle.panoc_first.proofs.on_first_gradient.Tie as tie
 
 element-copy-out-gradient-into : tie.Need-element-copy-out-gradient-into
 element-copy-out-gradient-into c = search needs

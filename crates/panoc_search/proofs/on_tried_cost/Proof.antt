@@ -3,8 +3,8 @@ use Rattle.image.specs.Image.{solveOf}
 use Rattle.panoc_core.specs.Laws.{tried-cost-goes}
 use Rattle.image.specs.Stored.{step-as}
 use borrow.Author.Needs.{needs}
-use Rattle.panoc_moves.proofs.search.on_tried_cost.Statement.{statement}
-use Rattle.panoc_moves.proofs.search.on_tried_cost.Tie as tie
+use Rattle.panoc_search.proofs.on_tried_cost.Statement.{statement}
+use Rattle.panoc_search.proofs.on_tried_cost.Tie as tie
 
 put-cost-requires : tie.Need-put-cost-requires
 put-cost-requires c κs = search needs

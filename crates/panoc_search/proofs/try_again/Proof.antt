@@ -8,8 +8,8 @@ use Rattle.panoc_core.specs.Laws.{sound-n, again-asks}
 use Rattle.panoc_core.specs.Board.{setU, setFpr, setDirection}
 use Rattle.image.specs.Stored.{step-as}
 use borrow.Author.Needs.{needs}
-use Rattle.panoc_moves.proofs.search.try_again.Statement.{statement}
-use Rattle.panoc_moves.proofs.search.try_again.Tie as tie
+use Rattle.panoc_search.proofs.try_again.Statement.{statement}
+use Rattle.panoc_search.proofs.try_again.Tie as tie
 
 element-copy-out-tau : tie.Need-element-copy-out-tau
 element-copy-out-tau c = search needs

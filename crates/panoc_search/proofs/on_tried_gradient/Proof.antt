@@ -6,10 +6,10 @@ use Rattle.image.specs.Image.{solveOf}
 use Rattle.panoc_core.specs.Laws.{sound-n, tried-gradient-goes, tried-gradient-stops}
 use Rattle.panoc_core.specs.Board.{setPlus, setGradient, setStep}
 use Rattle.image.specs.Stored.{step-as}
-use Rattle.panoc_moves.specs.Laws.{both-as, step-of}
+use Rattle.panoc_search.specs.Laws.{both-as, step-of}
 use borrow.Author.Needs.{needs}
-use Rattle.panoc_moves.proofs.search.on_tried_gradient.Statement.{statement}
-use Rattle.panoc_moves.proofs.search.on_tried_gradient.Tie as tie
+use Rattle.panoc_search.proofs.on_tried_gradient.Statement.{statement}
+use Rattle.panoc_search.proofs.on_tried_gradient.Tie as tie
 
 element-copy-out-gradient-into : tie.Need-element-copy-out-gradient-into
 element-copy-out-gradient-into c = search needs

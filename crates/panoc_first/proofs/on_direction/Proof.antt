@@ -4,8 +4,8 @@ use Rattle.panoc_core.specs.Laws.{sound-n, direction-first, direction-later}
 use Rattle.panoc_core.specs.Board.{seven}
 use Rattle.image.specs.Stored.{step-as}
 use borrow.Author.Needs.{needs}
-use Rattle.panoc_moves.proofs.first.on_direction.Statement.{statement}
-use Rattle.panoc_moves.proofs.first.on_direction.Tie as tie
+use Rattle.panoc_first.proofs.on_direction.Statement.{statement}
+use Rattle.panoc_first.proofs.on_direction.Tie as tie
 
 element-copy-out-if1 : tie.Need-element-copy-out-if1
 element-copy-out-if1 c = search needs

@@ -4,10 +4,10 @@ use Rattle.image.specs.Image.{solveOf}
 use Rattle.panoc_core.specs.Laws.{sound-n, search-asks}
 use Rattle.panoc_core.specs.Board.{seven}
 use Rattle.image.specs.Stored.{step-as}
-use Rattle.panoc_moves.specs.Laws.{line-of, search-one, envelope-at}
+use Rattle.panoc_search.specs.Laws.{line-of, search-one, envelope-at}
 use borrow.Author.Needs.{needs}
-use Rattle.panoc_moves.proofs.search.linesearch.Statement.{statement}
-use Rattle.panoc_moves.proofs.search.linesearch.Tie as tie
+use Rattle.panoc_search.proofs.linesearch.Statement.{statement}
+use Rattle.panoc_search.proofs.linesearch.Tie as tie
 
 line-into-requires : tie.Need-line-into-requires
 line-into-requires c κs = omega (arith, sound-n (solveOf (c .before .before .before .args .w .now) (c .before .before .before .args .k .now) (c .before .before .before .args .f .now)) (c .before .before .before .pre .0), (c .before .before .before .pre .1))

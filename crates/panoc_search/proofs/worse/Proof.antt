@@ -1,6 +1,6 @@
-use Rattle.panoc_moves.specs.Laws.{worse-is, worse-not}
-use Rattle.panoc_moves.proofs.search.worse.Statement.{statement}
-use Rattle.panoc_moves.proofs.search.worse.Tie as tie
+use Rattle.panoc_search.specs.Laws.{worse-is, worse-not}
+use Rattle.panoc_search.proofs.worse.Statement.{statement}
+use Rattle.panoc_search.proofs.worse.Tie as tie
 
 returns : tie.Need-returns
 returns c = worse-is _ _ _ (c .if1 .taken)

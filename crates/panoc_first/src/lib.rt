@@ -4,12 +4,12 @@ ghost use mathlib.Core.List.{[]};
 ghost use lib.ListN.{length, getD};
 ghost use Rattle.panoc_core.specs.Board.{Board, Sound, Takes, seven, setU, setGradient, setStep};
 ghost use Rattle.image.specs.Image.{phaseOf, solveOf, stepOf};
-use crate::search::linesearch;
 use image_puts::ask;
 use image_puts::put_cost;
 use image_puts::stop;
 use panoc_core::panoc_cache::Phase;
 use panoc_core::panoc_cache::Reply;
+use panoc_search::linesearch;
 
 // DIRECTION gave v: the first step's move goes to the half step, a later one searches along v.
 pub fn on_direction(
