@@ -8,8 +8,8 @@ use Rattle.panoc_core.specs.Laws.{sound-n, doubling-none, doubling-stays, doubl
 use Rattle.panoc_core.specs.Board.{setU, setGradient, setStep}
 use Rattle.image.specs.Stored.{step-as}
 use borrow.Author.Needs.{needs}
-use Rattle.panoc_doubling.proofs.update_lipschitz_constant.Statement.{statement}
-use Rattle.panoc_doubling.proofs.update_lipschitz_constant.Tie as tie
+use Rattle.panoc_lipschitz.proofs.update_lipschitz_constant.Statement.{statement}
+use Rattle.panoc_lipschitz.proofs.update_lipschitz_constant.Tie as tie
 
 element-copy-out-rounds : tie.Need-element-copy-out-rounds
 element-copy-out-rounds c = search needs

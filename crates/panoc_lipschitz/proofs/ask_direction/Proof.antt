@@ -2,10 +2,10 @@ use mathlib.Core.Path.{refl, _∙_}
 use Rattle.image.specs.Image.{solveOf}
 use Rattle.panoc_core.specs.Laws.{direction-asks}
 use Rattle.image.specs.Stored.{step-as}
-use Rattle.panoc_doubling.specs.Laws.{direction-keeps, direction-forgets}
+use Rattle.panoc_lipschitz.specs.Laws.{direction-keeps, direction-forgets}
 use borrow.Author.Needs.{needs}
-use Rattle.panoc_doubling.proofs.ask_direction.Statement.{statement}
-use Rattle.panoc_doubling.proofs.ask_direction.Tie as tie
+use Rattle.panoc_lipschitz.proofs.ask_direction.Statement.{statement}
+use Rattle.panoc_lipschitz.proofs.ask_direction.Tie as tie
 
 element-copy-out-sigma-of : tie.Need-element-copy-out-sigma-of
 element-copy-out-sigma-of c = search needs
