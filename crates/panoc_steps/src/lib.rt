@@ -10,7 +10,7 @@ use image_puts::put_steps;
 use panoc_core::panoc_cache::Phase;
 use panoc_core::panoc_cache::Reply;
 use panoc_ends::standing;
-use panoc_step::finish;
+use panoc_finish::finish;
 use panoc_step::step;
 
 // TIME was answered: the residual, and the next step.

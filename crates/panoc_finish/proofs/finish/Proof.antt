@@ -4,8 +4,8 @@ use Rattle.image.specs.Image.{solveOf, stepOf}
 use native.Mathlib.Omega.{arith}
 use mathlib.Core.Path.{refl, sym, ap, _∙_}
 use borrow.Author.Needs.{needs}
-use Rattle.panoc_step.proofs.finish.Statement.{statement}
-use Rattle.panoc_step.proofs.finish.Tie as tie
+use Rattle.panoc_finish.proofs.finish.Statement.{statement}
+use Rattle.panoc_finish.proofs.finish.Tie as tie
 
 element-copy-out-n : tie.Need-element-copy-out-n
 element-copy-out-n c = search needs

@@ -9,8 +9,8 @@ use Rattle.image.specs.Image.{solveOf, stepOf}
 use native.Mathlib.Omega.{arith}
 use mathlib.Core.Path.{refl, sym, ap, _∙_}
 use borrow.Author.Needs.{needs}
-use Rattle.panoc_step.proofs.exit_condition.Statement.{statement}
-use Rattle.panoc_step.proofs.exit_condition.Tie as tie
+use Rattle.panoc_finish.proofs.exit_condition.Statement.{statement}
+use Rattle.panoc_finish.proofs.exit_condition.Tie as tie
 
 element-copy-out-n : tie.Need-element-copy-out-n
 element-copy-out-n c = search needs
