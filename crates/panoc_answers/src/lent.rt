@@ -20,10 +20,10 @@ use panoc_estimate::on_shifted;
 use panoc_first::on_direction;
 use panoc_first::on_first_gradient;
 use panoc_numbers::on_number;
+use panoc_opening::on_project;
 use panoc_projects::on_first_project;
 use panoc_projects::on_tried_project;
 use panoc_search::on_tried_gradient;
-use panoc_steps::on_project;
 use panoc_steps::timed;
 
 // A vector that was asked for.

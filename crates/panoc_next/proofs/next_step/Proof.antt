@@ -1,4 +1,4 @@
-use Rattle.panoc_steps.specs.Laws.{next-sound, next-lent}
+use Rattle.panoc_next.specs.Laws.{next-sound, next-lent}
 use Rattle.panoc_core.specs.Board.{setOf}
 use mathlib.Core.Bool.{not, true}
 use borrow.Author.Tests.{eq-eqb, ne-eqb}
@@ -9,8 +9,8 @@ use Rattle.image.specs.Image.{solveOf, stepOf}
 use native.Mathlib.Omega.{arith}
 use mathlib.Core.Path.{refl, sym, ap, _∙_}
 use borrow.Author.Needs.{needs}
-use Rattle.panoc_steps.proofs.next_step.Statement.{statement}
-use Rattle.panoc_steps.proofs.next_step.Tie as tie
+use Rattle.panoc_next.proofs.next_step.Statement.{statement}
+use Rattle.panoc_next.proofs.next_step.Tie as tie
 
 element-copy-out-left : tie.Need-element-copy-out-left
 element-copy-out-left c = search needs

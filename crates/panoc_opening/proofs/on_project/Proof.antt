@@ -1,12 +1,12 @@
-use Rattle.panoc_steps.specs.Laws.{project-lent}
+use Rattle.panoc_opening.specs.Laws.{project-lent}
 use Rattle.panoc_core.specs.Laws.{sound-n, project-sound}
 use Rattle.panoc_core.specs.Board.{six}
 use Rattle.image.specs.Image.{solveOf, stepOf}
 use native.Mathlib.Omega.{arith}
 use mathlib.Core.Path.{refl, sym, ap, _∙_}
 use borrow.Author.Needs.{needs}
-use Rattle.panoc_steps.proofs.on_project.Statement.{statement}
-use Rattle.panoc_steps.proofs.on_project.Tie as tie
+use Rattle.panoc_opening.proofs.on_project.Statement.{statement}
+use Rattle.panoc_opening.proofs.on_project.Tie as tie
 
 take-into-requires : tie.Need-take-into-requires
 take-into-requires c κs = omega (arith, sound-n (solveOf (c .before .before .args .w .now) (c .before .before .args .k .now) (c .before .before .args .f .now)) (c .before .before .pre .0), c .before .before .pre .2)
