@@ -10,9 +10,9 @@ ghost use Rattle.model.specs.Inner as I;
 ghost use Rattle.panoc_core.specs.Laws.{withNorms};
 ghost use Rattle.panoc_core.specs.Board.{Board, Sound, Finishes, setOf, stateAt, setU, setGradient, setPrevious, setHalf, setFpr, setBest};
 ghost use Rattle.image.specs.Image.{solveOf, stepOf};
-use image_puts::ask;
+use image_moves::ask;
+use image_moves::stop;
 use image_puts::put_norms;
-use image_puts::stop;
 use panoc_core::panoc_cache::cache_best_half_step;
 
 // step.

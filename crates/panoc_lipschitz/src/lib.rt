@@ -5,7 +5,7 @@ ghost use Rattle.model.specs.Inner as I;
 ghost use Rattle.panoc_core.specs.Board.{Board, Sound, Comes, setOf, endOf, nextAt, stateAt, setU, setGradient, setStep};
 ghost use Rattle.panoc_core.specs.Rest.{doublingAt};
 ghost use Rattle.image.specs.Image.{flagOf, solveOf, stepOf};
-use image_puts::ask;
+use image_moves::ask;
 use image_puts::put_gammas;
 use image_puts::put_rounds;
 use panoc_core::lipschitz_estimator::exceeds;

@@ -2,7 +2,7 @@
 ghost use lib.ListN.{getD};
 ghost use Rattle.panoc_core.specs.Board.{Board, Sound, Residual, Laps, six};
 ghost use Rattle.image.specs.Image.{solveOf, stepOf};
-use image_puts::ask;
+use image_moves::ask;
 use image_puts::put_status;
 use image_puts::put_steps;
 use panoc_ends::standing;

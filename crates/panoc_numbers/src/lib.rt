@@ -6,7 +6,7 @@ ghost use Rattle.model.specs.Process.{Kind};
 ghost use Rattle.panoc_core.specs.Board.{Board, Takes, wantedOf, five};
 ghost use Rattle.image.specs.Image.{solveOf, stepOf};
 use image::kinds::phase_of;
-use image_puts::stop;
+use image_moves::stop;
 use panoc_core::panoc_cache::Phase;
 use panoc_core::panoc_cache::Reply;
 use panoc_doubling::on_doubled_cost;
