@@ -1,7 +1,7 @@
-use Rattle.image_solve.proofs.Laws.{kept-as}
+use Rattle.image_keep.proofs.Laws.{kept-as}
 use borrow.Author.Needs.{needs}
-use Rattle.image_solve.proofs.keep.Statement.{statement}
-use Rattle.image_solve.proofs.keep.Tie as tie
+use Rattle.image_keep.proofs.keep.Statement.{statement}
+use Rattle.image_keep.proofs.keep.Tie as tie
 
 phase-number-requires : tie.Need-phase-number-requires
 phase-number-requires c κs = search needs
