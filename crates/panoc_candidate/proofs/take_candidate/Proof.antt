@@ -6,8 +6,8 @@ use Rattle.image.specs.Image.{solveOf, stepOf}
 use native.Mathlib.Omega.{arith}
 use mathlib.Core.Path.{refl, sym, ap, _∙_}
 use borrow.Author.Needs.{needs}
-use Rattle.panoc_projects.proofs.take_candidate.Statement.{statement}
-use Rattle.panoc_projects.proofs.take_candidate.Tie as tie
+use Rattle.panoc_candidate.proofs.take_candidate.Statement.{statement}
+use Rattle.panoc_candidate.proofs.take_candidate.Tie as tie
 
 element-copy-out-adopt-into : tie.Need-element-copy-out-adopt-into
 element-copy-out-adopt-into c = search needs
