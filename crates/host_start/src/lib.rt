@@ -1,8 +1,8 @@
 // The start of an inner solve for C.
 ghost use Rattle.panoc_core.specs.Board.{Board, Begins, setU};
 ghost use Rattle.image.specs.Image.{settingsGiven, stepOf};
+use image_keep::keep;
 use image_solve::begin;
-use image_solve::keep;
 use image_solve::settings_given;
 use image_solve::tell;
 use panoc_starts::start_in_place;

@@ -1,32 +1,20 @@
 -- The numbers of a lent run, there and back. Assumes nothing.
 use Prim.Native.Nat.{ℕ}
-use mathlib.Core.Path.{_≡_, refl, sym, ap, _∙_}
+use mathlib.Core.Path.{_≡_, refl, ap, _∙_}
 use mathlib.Core.Bool.{Bool}
-use mathlib.Core.List.{List, [], _∷_}
-use lib.Ieee.{Float, nan}
-use lib.ListN.{getD}
+use mathlib.Core.List.{List}
+use lib.Ieee.{Float}
 use Rattle.panoc_core.specs.declared.panoc_cache.AkktTolerance.{AkktTolerance}
 use Rattle.panoc_core.specs.declared.panoc_cache.ExitStatus.{ExitStatus}
 use Rattle.panoc_core.specs.declared.panoc_cache.Outcome.{Outcome}
 use Rattle.panoc_core.specs.declared.panoc_cache.Outcome.the-variants.{Asked, Ended, Refused, Failed}
-use Rattle.panoc_core.specs.declared.panoc_cache.Phase.{Phase}
 use Rattle.panoc_core.specs.declared.panoc_cache.Question.{Question}
 use Rattle.panoc_core.specs.declared.panoc_cache.Settings.{Settings}
-use Rattle.panoc_core.specs.declared.panoc_cache.Solve.{Solve}
 use Rattle.panoc_core.specs.declared.panoc_cache.SolverStatus.{SolverStatus}
-use Rattle.image.specs.Rounds.{phase-round, status-round, flag-round, akkt-round, question-round}
-use Rattle.image.specs.Image.{phaseOf, phaseNumber, statusOf, statusNumber, flagOf, flagNumber, akktOf, akktSet, akktValue, questionOf, questionNumber, settingsGiven, settingsOf, withNumbers, solveOf, noted, notedCount, notedEnd, Tells}
+use Rattle.image.specs.Rounds.{status-round, flag-round, akkt-round, question-round}
+use Rattle.image.specs.Image.{statusOf, statusNumber, flagOf, flagNumber, akktOf, akktSet, akktValue, questionOf, questionNumber, settingsGiven, noted, notedCount, notedEnd, Tells}
 
--- ---- the small part of an inner solve
-
--- a small part with some of it given by equal values
-made : (s : Solve) (p : Phase) (x : Settings) (e : ExitStatus) (b : Bool) → p ≡ s .phase → x ≡ s .set → e ≡ s .status → b ≡ s .forget
-    → _≡_ {A = Solve} (record { phase = p; set = x; numbers = s .numbers; left = s .left; iterations = s .iterations; status = e; rounds = s .rounds; forget = b }) s
-made s p x e b h₁ h₂ h₃ h₄ =
-    ap (λ (q : Phase). record { phase = q; set = x; numbers = s .numbers; left = s .left; iterations = s .iterations; status = e; rounds = s .rounds; forget = b }) h₁
-    ∙ ap (λ (q : Settings). record { phase = s .phase; set = q; numbers = s .numbers; left = s .left; iterations = s .iterations; status = e; rounds = s .rounds; forget = b }) h₂
-    ∙ ap (λ (q : ExitStatus). record { phase = s .phase; set = s .set; numbers = s .numbers; left = s .left; iterations = s .iterations; status = q; rounds = s .rounds; forget = b }) h₃
-    ∙ ap (λ (q : Bool). record { phase = s .phase; set = s .set; numbers = s .numbers; left = s .left; iterations = s .iterations; status = s .status; rounds = s .rounds; forget = q }) h₄
+-- ---- the settings of an inner solve
 
 -- settings, from the numbers that stand for them
 set-made : (s : Settings) (b : Bool) (a : AkktTolerance) → b ≡ s .limited → a ≡ s .«akkt_tolerance»
@@ -39,13 +27,6 @@ pub set-as : (s x : Settings) (l h : ℕ) (t : Float) → l ≡ flagNumber (s .l
     → x ≡ settingsGiven (s .n) (s .«max_iter») l (s .tolerance) h t → x ≡ s
 set-as s x l h t e₁ e₂ e₃ g =
     g ∙ set-made s (flagOf l) (akktOf h t) (ap flagOf e₁ ∙ flag-round (s .limited)) (ap (λ (q : ℕ). akktOf q t) e₂ ∙ ap (akktOf (akktSet (s .«akkt_tolerance»))) e₃ ∙ akkt-round (s .«akkt_tolerance»))
-
-pub kept-as : (s : Solve) (w k : List ℕ) (f f′ : List Float) (p e b : ℕ) → p ≡ phaseNumber (s .phase) → e ≡ statusNumber (s .status) → b ≡ flagNumber (s .forget)
-    → f′ ≡ withNumbers (s .numbers) f → settingsOf w k f ≡ s .set
-    → solveOf (p ∷ getD w 1 0 ∷ e ∷ b ∷ getD w 4 0 ∷ getD w 5 0 ∷ []) (s .left ∷ s .iterations .0 ∷ s .rounds ∷ getD k 3 0 ∷ getD k 4 0 ∷ getD k 5 0 ∷ []) f′ ≡ s
-kept-as s w k f f′ p e b h₁ h₂ h₃ h₄ h₅ =
-    ap (λ (l : List Float). solveOf (p ∷ getD w 1 0 ∷ e ∷ b ∷ getD w 4 0 ∷ getD w 5 0 ∷ []) (s .left ∷ s .iterations .0 ∷ s .rounds ∷ getD k 3 0 ∷ getD k 4 0 ∷ getD k 5 0 ∷ []) l) h₄
-    ∙ made s (phaseOf p) (settingsOf w k f) (statusOf e) (flagOf b) (ap phaseOf h₁ ∙ phase-round (s .phase)) h₅ (ap statusOf h₂ ∙ status-round (s .status)) (ap flagOf h₃ ∙ flag-round (s .forget))
 
 -- ---- what a call tells
 pub asked-as : (o : Outcome) (q : Question) (m : ℕ) (w w′ k : List ℕ) (f : List Float) → o ≡ Asked q → m ≡ questionNumber q → w′ ≡ noted m w → Tells o 0 w k f w′ k f

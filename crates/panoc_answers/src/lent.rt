@@ -10,20 +10,20 @@ ghost use Rattle.panoc_core.specs.Values.{replyOf, decided};
 ghost use Rattle.panoc_core.specs.Board.{Board, Takes, wantedOf, wantsVector, six, before, after};
 ghost use Rattle.image.specs.Image.{solveOf, stepOf};
 use image::kinds::phase_of;
-use image_puts::fail;
-use image_puts::stop;
+use image_moves::fail;
+use image_moves::stop;
 use panoc_core::panoc_cache::Phase;
 use panoc_core::panoc_cache::Reply;
 use panoc_doubling::on_doubled_project;
 use panoc_estimate::on_gradient;
 use panoc_estimate::on_shifted;
-use panoc_moves::first::on_direction;
-use panoc_moves::first::on_first_gradient;
-use panoc_moves::search::on_tried_gradient;
+use panoc_first::on_direction;
+use panoc_first::on_first_gradient;
 use panoc_numbers::on_number;
+use panoc_opening::on_project;
 use panoc_projects::on_first_project;
 use panoc_projects::on_tried_project;
-use panoc_steps::on_project;
+use panoc_search::on_tried_gradient;
 use panoc_steps::timed;
 
 // A vector that was asked for.

@@ -1,40 +1,22 @@
 -- The doubling of lent numbers. Assumes nothing.
 use Prim.Native.Nat.{ℕ}
 use mathlib.Core.Path.{_≡_, sym, ap, _∙_, subst}
-use mathlib.Core.Bool.{Bool, true, not}
+use mathlib.Core.Bool.{Bool, true}
 use mathlib.Core.List.{List}
-use borrow.Author.Tests.{eq-eqb, ne-eqb}
 use lib.Dec.{eqb}
 use lib.Ieee.{Float, nan}
 use lib.ListN.{getD}
-use Rattle.panoc_core.specs.Board.{Board, Sound, Comes, setOf, endOf, nextAt, stateAt, stepped}
-use Rattle.panoc_core.specs.Laws.{withGammas, withNorms}
+use Rattle.panoc_core.specs.Board.{Board, Sound, Comes, setOf, endOf, nextAt, stateAt}
+use Rattle.panoc_core.specs.Laws.{withNorms}
 use Rattle.panoc_core.specs.Rest.{sound, doublingAt}
-use Rattle.panoc_core.specs.declared.panoc_cache.Outcome.the-variants.{Asked}
-use Rattle.panoc_core.specs.declared.panoc_cache.Phase.the-variants as P
-use Rattle.panoc_core.specs.declared.panoc_cache.Question.the-variants as Q
 use Rattle.panoc_core.specs.declared.panoc_cache.Stepped.{Stepped}
-use Rattle.image.specs.Image.{flagOf, flagNumber, solveOf, stepOf, moved, forgotten, countedRounds, gammasPut, normsPut, searchPut}
+use Rattle.image.specs.Image.{flagOf, flagNumber, solveOf, forgotten, countedRounds, normsPut, searchPut}
 use Rattle.image.specs.Rounds.{flag-round}
 
 -- a run with other rounds
 pub sound-as : (w k k′ : List ℕ) (f : List Float) (m : ℕ) → k′ ≡ countedRounds m k → Sound (solveOf w k f) → Sound (solveOf w k′ f)
 unfolding sound
 sound-as w k k′ f m e h = subst (λ (z : List ℕ). Sound (solveOf w z f)) (sym e) h
-
--- DIRECTION that says to forget, and one that does not
-module _ (w k : List ℕ) (f : List Float) (σ : Float) where
-  pub direction-keeps : getD w 3 0 ≡ 0
-      → stepOf 0 (moved 8 3 w) k (gammasPut (getD f 1 nan) (getD f 2 nan) σ f)
-      ≡ stepped (Asked (Q.Direction (flagOf (getD w 3 0)))) P.Direction (withGammas (getD f 1 nan) (getD f 2 nan) σ (solveOf w k f))
-  direction-keeps e =
-      ap (λ (t : Bool). stepped (Asked (Q.Direction t)) P.Direction (withGammas (getD f 1 nan) (getD f 2 nan) σ (solveOf w k f))) (sym (ap not (eq-eqb _ _ e)))
-
-  pub direction-forgets : (getD w 3 0 ≡ 0 → ⊥)
-      → stepOf 0 (moved 8 4 w) k (gammasPut (getD f 1 nan) (getD f 2 nan) σ f)
-      ≡ stepped (Asked (Q.Direction (flagOf (getD w 3 0)))) P.Direction (withGammas (getD f 1 nan) (getD f 2 nan) σ (solveOf w k f))
-  direction-forgets e =
-      ap (λ (t : Bool). stepped (Asked (Q.Direction t)) P.Direction (withGammas (getD f 1 nan) (getD f 2 nan) σ (solveOf w k f))) (sym (ap not (ne-eqb _ _ e)))
 
 -- the doubling of the lent numbers
 abbrev pub Doubles : List ℕ → List ℕ → List Float → Board → Float → Stepped → Board → Type 0

@@ -1,67 +1,20 @@
-// The doubling of L, and the question for a DIRECTION.
+// The answers at the half step and while doubling.
 ghost use mathlib.Core.Path.{_≡_};
 ghost use mathlib.Core.List.{[]};
 ghost use lib.ListN.{length, getD};
-ghost use Rattle.panoc_core.specs.Board.{Board, Sound, Takes, Comes, setOf, endOf, nextAt, stateAt, setU, setGradient, setStep, setHalf, setFpr};
-ghost use Rattle.panoc_core.specs.Rest.{doublingAt};
-ghost use Rattle.model.specs.Inner as I;
-ghost use lib.Ieee.{binary64};
-ghost use Rattle.image.specs.Image.{phaseOf, flagOf, solveOf, stepOf};
+ghost use Rattle.panoc_core.specs.Board.{Board, Sound, Takes, setU, setGradient, setStep, setHalf, setFpr};
+ghost use Rattle.image.specs.Image.{phaseOf, solveOf, stepOf};
 use image::kinds::flag_number;
-use image_puts::ask;
+use image_moves::ask;
+use image_moves::stop;
 use image_puts::put_forget;
-use image_puts::put_gammas;
 use image_puts::put_norms;
 use image_puts::put_rounds;
 use image_puts::put_search;
-use image_puts::stop;
-use panoc_core::lipschitz_estimator::exceeds;
 use panoc_core::lipschitz_estimator::lipschitz_check_rhs;
-use panoc_core::lipschitz_estimator::sigma_of;
 use panoc_core::panoc_cache::Phase;
 use panoc_core::panoc_cache::Reply;
-
-// σ again, and DIRECTION, which says whether to forget.
-pub fn ask_direction(w: &mut [u32; 6], k: &[usize; 6], f: &mut [f64; 13]) -> u32
-    requires { ⌜ Sound (solveOf (now w) (now k) (now f)) ⌝ }
-    ensures { λ r. ⌜ ((b : Board) → Comes ((solveOf (now (w .entry)) (now (k .entry)) (now (f .entry))) .set) (I.askDirection binary64 (setOf (solveOf (now (w .entry)) (now (k .entry)) (now (f .entry)))) (endOf (solveOf (now (w .entry)) (now (k .entry)) (now (f .entry)))) (nextAt (solveOf (now (w .entry)) (now (k .entry)) (now (f .entry)))) (flagOf (getD (now (w .entry)) 3 0)) (stateAt (solveOf (now (w .entry)) (now (k .entry)) (now (f .entry))) b)) (stepOf r (now (w .exit)) (now (k .entry)) (now (f .exit))) b) ⌝ }
-{
-    let sigma = sigma_of(f[2]);
-    put_gammas(f[1], f[2], sigma, f);
-    if w[3] == 0 {
-        ask(8, 3, w)
-    } else {
-        ask(8, 4, w)
-    }
-}
-
-// The doubling: another round while the half step's cost exceeds its ceiling, which is kept among the numbers, else DIRECTION.
-pub fn update_lipschitz_constant(
-    cost: f64,
-    w: &mut [u32; 6],
-    k: &mut [usize; 6],
-    f: &mut [f64; 13],
-    u: &[f64; 64],
-    gradient: &[f64; 64],
-    step: &mut [f64; 64],
-) -> u32
-    requires { ⌜ Sound (solveOf (now w) (now k) (now f)) ⌝ }
-    ensures { λ r. ⌜ ((b : Board) → Comes ((solveOf (now (w .entry)) (now (k .entry)) (now (f .entry))) .set) (doublingAt (setOf (solveOf (now (w .entry)) (now (k .entry)) (now (f .entry)))) (endOf (solveOf (now (w .entry)) (now (k .entry)) (now (f .entry)))) (nextAt (solveOf (now (w .entry)) (now (k .entry)) (now (f .entry)))) ((solveOf (now (w .entry)) (now (k .entry)) (now (f .entry))) .rounds) ((solveOf (now (w .entry)) (now (k .entry)) (now (f .entry))) .forget) ((solveOf (now (w .entry)) (now (k .entry)) (now (f .entry))) .numbers .«rhs_ls») (stateAt (solveOf (now (w .entry)) (now (k .entry)) (now (f .entry))) (setU (now (u .entry)) (setGradient (now (gradient .entry)) (setStep (now (step .entry)) b)))) cost) (stepOf r (now (w .exit)) (now (k .exit)) (now (f .exit))) (setU (now (u .entry)) (setGradient (now (gradient .entry)) (setStep (now (step .exit)) b)))) ⌝ }
-{
-    let rounds = k[2];
-    if rounds == 0 {
-        return ask_direction(w, k, f);
-    }
-    if exceeds(f[7], f[1], cost) {
-        let lipschitz = f[1] * 2.0;
-        let gamma = f[2] / 2.0;
-        vector_updates::less_times_into(u, gamma, gradient, step, k[3]);
-        put_gammas(lipschitz, gamma, f[3], f);
-        put_rounds(rounds - 1, k);
-        return ask(6, 2, w);
-    }
-    ask_direction(w, k, f)
-}
+use panoc_lipschitz::update_lipschitz_constant;
 
 // COST at the half step is x. The start also forgets.
 pub fn on_half_cost(

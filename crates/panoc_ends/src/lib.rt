@@ -8,9 +8,9 @@ ghost use Rattle.model.specs.Inner as I;
 ghost use Rattle.panoc_core.specs.Values.{exitStatus};
 ghost use Rattle.panoc_core.specs.Board.{Board, Sound, Takes};
 ghost use Rattle.image.specs.Image.{phaseOf, statusOf, solveOf, stepOf};
-use image_puts::move_to;
+use image_moves::move_to;
+use image_moves::stop;
 use image_puts::note_end;
-use image_puts::stop;
 use panoc_core::panoc_cache::Phase;
 use panoc_core::panoc_cache::Reply;
 

@@ -6,15 +6,15 @@ ghost use Rattle.model.specs.Process.{Kind};
 ghost use Rattle.panoc_core.specs.Board.{Board, Takes, wantedOf, five};
 ghost use Rattle.image.specs.Image.{solveOf, stepOf};
 use image::kinds::phase_of;
-use image_puts::stop;
+use image_moves::stop;
 use panoc_core::panoc_cache::Phase;
 use panoc_core::panoc_cache::Reply;
 use panoc_doubling::on_doubled_cost;
 use panoc_doubling::on_half_cost;
 use panoc_ends::on_last_cost;
 use panoc_estimate::on_cost;
-use panoc_moves::first::on_first_cost;
-use panoc_moves::search::on_tried_cost;
+use panoc_first::on_first_cost;
+use panoc_search::on_tried_cost;
 
 // A number that was asked for.
 pub fn on_number(

@@ -20,7 +20,7 @@ use Rattle.panoc_core.specs.declared.panoc_cache.Solve.{Solve}
 use Rattle.panoc_core.specs.declared.panoc_cache.Stepped.{Stepped}
 use Rattle.model.specs.State.{withU}
 use Rattle.image.specs.Image.{solveOf}
-use Rattle.panoc_moves.specs.Laws.{envelope-at}
+use Rattle.panoc_search.specs.Laws.{envelope-at}
 
 -- the sums of a residual over a slice of the length asked
 module _ (n : ℕ) (v : List Float) (l : length v ≡ n) where
