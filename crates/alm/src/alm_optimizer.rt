@@ -2,7 +2,7 @@
 ghost use Rattle.alm_calls.specs.LoopCalls.{Answers};
 use alm_core::alm_cache::AlmAnswered;
 use alm_core::alm_cache::AlmRun;
-use alm_in_place::answer_in_place;
+pub use alm_in_place::answer_in_place;
 use panoc_core::panoc_cache::Reply;
 
 // An answer to the question of a run by value.

@@ -3,7 +3,7 @@ ghost use Rattle.panoc_core.specs.Calls.{Answers};
 use panoc_core::panoc_cache::Answered;
 use panoc_core::panoc_cache::Reply;
 use panoc_core::panoc_cache::Run;
-use panoc_in_place::answer_in_place;
+pub use panoc_in_place::answer_in_place;
 
 // An answer to the question of a run by value.
 pub fn answer(run: Run, a: Reply, v: &[f64], plan: &mut [f64]) -> Answered
