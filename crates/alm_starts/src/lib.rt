@@ -20,14 +20,14 @@ use panoc_core::panoc_cache::AkktTolerance;
 use panoc_core::panoc_cache::ExitStatus;
 use panoc_core::panoc_cache::InnerIterations;
 use panoc_core::panoc_cache::Settings;
-use start_tests::factor_right;
-use start_tests::fraction_right;
-use start_tests::limit_right;
-use start_tests::mappings_right;
+use start_numbers::factor_right;
+use start_numbers::fraction_right;
+use start_numbers::limit_right;
+use start_numbers::tolerance_right;
+use start_sizes::mappings_right;
+use start_sizes::sizes_right;
 use start_tests::multipliers_in;
 use start_tests::penalty_in;
-use start_tests::sizes_right;
-use start_tests::tolerance_right;
 use start_tests::xi_right;
 
 // The tolerances.
