@@ -56,7 +56,7 @@ use Rattle.alm_core.specs.declared.alm_cache.AlmSettings.{AlmSettings}
 use Rattle.alm_core.specs.declared.alm_cache.AlmOutcome.{AlmOutcome}
 use Rattle.alm_core.specs.declared.alm_cache.AlmOutcome.the-variants as O
 use Rattle.alm_core.specs.declared.alm_cache.AlmStepped.{AlmStepped}
-use Rattle.start_tests.specs.StartLaws.{xi-length, xi-short}
+use Rattle.start_sizes.specs.SizeLaws.{xi-length, xi-short}
 use Rattle.alm_calls.specs.LoopCalls.{wantedAt, wantedOf, runOf, boardOf, gave, restOf, lentRight, xiGiven, xiHanded, tolerancesRight, factorsRight, limitsRight, firstAlm, Answers, Reaches, Starts, Begins, asking, pointsRefusal, Points}
 
 bit : {X : Type 0} → true ≡ false → X

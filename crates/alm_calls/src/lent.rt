@@ -8,7 +8,7 @@ ghost use Rattle.alm_core.specs.Board.{given};
 ghost use Rattle.alm_calls.specs.LoopCalls.{lentRight, xiGiven, xiHanded};
 use alm_core::alm_cache::AlmOutcome;
 use alm_core::alm_cache::AlmSettings;
-use start_tests::xi_fits;
+use start_sizes::xi_fits;
 
 // Whether the lent u and xi have the lengths asked.
 pub fn lent_fits(set: AlmSettings, us: usize, places: usize) -> bool

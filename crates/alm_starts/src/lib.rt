@@ -13,14 +13,14 @@ use alm_core::alm_cache::AlmStepped;
 use alm_core::alm_steps::begins;
 use alm_core::alm_steps::stops;
 use alm_first::first;
-use start_tests::factor_right;
-use start_tests::fraction_right;
-use start_tests::limit_right;
-use start_tests::mappings_right;
+use start_numbers::factor_right;
+use start_numbers::fraction_right;
+use start_numbers::limit_right;
+use start_numbers::tolerance_right;
+use start_sizes::mappings_right;
+use start_sizes::sizes_right;
 use start_tests::multipliers_in;
 use start_tests::penalty_in;
-use start_tests::sizes_right;
-use start_tests::tolerance_right;
 use start_tests::xi_right;
 
 // The tolerances.

@@ -12,7 +12,7 @@ use alm_calls::lent::hand_out_xi;
 use alm_core::alm_cache::AlmStepped;
 use alm_image::lent::keep_alm;
 use alm_image::lent::tell_alm;
-use start_tests::xi_fits;
+use start_sizes::xi_fits;
 
 // Whether the lent u and xi have the lengths asked.
 pub fn fits(lk: &[usize; 10], us: usize, places: usize) -> bool

@@ -17,9 +17,9 @@ use panoc_core::panoc_cache::Settings;
 use panoc_core::panoc_cache::Solve;
 use panoc_core::panoc_cache::Stepped;
 use panoc_core::panoc_cache::stops;
-use start_tests::limit_right;
-use start_tests::sizes_right;
-use start_tests::tolerance_right;
+use start_numbers::limit_right;
+use start_numbers::tolerance_right;
+use start_sizes::sizes_right;
 
 // The number of the start's refusal, 1, 3 or 4, and 0 for none; us is the length of the lent u.
 pub fn start_refusal(set: Settings, us: usize) -> u32

@@ -4,8 +4,8 @@ ghost use Rattle.model.specs.Refusals.{psiRefusal};
 ghost use Rattle.factory.specs.FactoryValues.{sizesOf};
 ghost use Rattle.factory.specs.FactoryRest.{soundSizes};
 use crate::alm_factory::Sizes;
-use start_tests::mappings_right;
-use start_tests::sizes_right;
+use start_sizes::mappings_right;
+use start_sizes::sizes_right;
 
 // Sizes for which the arrays are long enough, as those of a run that a start made are.
 pub fn sound(s: Sizes) -> bool

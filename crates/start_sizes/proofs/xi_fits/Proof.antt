@@ -1,7 +1,7 @@
-use Rattle.start_tests.specs.StartLaws.{fits-empty, fits-long}
+use Rattle.start_sizes.specs.SizeLaws.{fits-empty, fits-long}
 use borrow.Author.Needs.{needs}
-use Rattle.start_tests.proofs.xi_fits.Statement.{statement}
-use Rattle.start_tests.proofs.xi_fits.Tie as tie
+use Rattle.start_sizes.proofs.xi_fits.Statement.{statement}
+use Rattle.start_sizes.proofs.xi_fits.Tie as tie
 
 holds-requires : tie.Need-holds-requires
 holds-requires c κs = search needs

@@ -1,7 +1,7 @@
-use Rattle.start_tests.specs.StartLaws.{mappings-wide, mappings-wide2, mappings-long, mappings-free, mappings-with}
+use Rattle.start_sizes.specs.SizeLaws.{mappings-wide, mappings-wide2, mappings-long, mappings-free, mappings-with}
 use borrow.Author.Needs.{needs}
-use Rattle.start_tests.proofs.mappings_right.Statement.{statement}
-use Rattle.start_tests.proofs.mappings_right.Tie as tie
+use Rattle.start_sizes.proofs.mappings_right.Statement.{statement}
+use Rattle.start_sizes.proofs.mappings_right.Tie as tie
 
 returns : tie.Need-returns
 returns c = mappings-wide _ _ _ _ (c .if1 .taken)

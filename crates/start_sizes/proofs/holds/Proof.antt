@@ -1,7 +1,7 @@
-use Rattle.start_tests.specs.StartLaws.{holds-none, holds-is}
+use Rattle.start_sizes.specs.SizeLaws.{holds-none, holds-is}
 use borrow.Author.Needs.{needs}
-use Rattle.start_tests.proofs.holds.Statement.{statement}
-use Rattle.start_tests.proofs.holds.Tie as tie
+use Rattle.start_sizes.proofs.holds.Statement.{statement}
+use Rattle.start_sizes.proofs.holds.Tie as tie
 
 sub-result : tie.Need-sub-result
 sub-result c = search needs

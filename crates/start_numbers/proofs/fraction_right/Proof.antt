@@ -1,6 +1,6 @@
-use Rattle.start_tests.specs.StartLaws.{fraction-is, fraction-not}
-use Rattle.start_tests.proofs.fraction_right.Statement.{statement}
-use Rattle.start_tests.proofs.fraction_right.Tie as tie
+use Rattle.start_numbers.specs.NumberLaws.{fraction-is, fraction-not}
+use Rattle.start_numbers.proofs.fraction_right.Statement.{statement}
+use Rattle.start_numbers.proofs.fraction_right.Tie as tie
 
 returns : tie.Need-returns
 returns c = fraction-is _ (c .if1 .taken)

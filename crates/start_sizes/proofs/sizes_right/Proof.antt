@@ -1,6 +1,6 @@
-use Rattle.start_tests.specs.StartLaws.{sizes-zero, sizes-wide, sizes-is}
-use Rattle.start_tests.proofs.sizes_right.Statement.{statement}
-use Rattle.start_tests.proofs.sizes_right.Tie as tie
+use Rattle.start_sizes.specs.SizeLaws.{sizes-zero, sizes-wide, sizes-is}
+use Rattle.start_sizes.proofs.sizes_right.Statement.{statement}
+use Rattle.start_sizes.proofs.sizes_right.Tie as tie
 
 returns : tie.Need-returns
 returns c = sizes-zero _ _ (c .if1 .taken)

@@ -1,6 +1,6 @@
-use Rattle.start_tests.specs.StartLaws.{limit-zero, limit-is}
-use Rattle.start_tests.proofs.limit_right.Statement.{statement}
-use Rattle.start_tests.proofs.limit_right.Tie as tie
+use Rattle.start_numbers.specs.NumberLaws.{limit-zero, limit-is}
+use Rattle.start_numbers.proofs.limit_right.Statement.{statement}
+use Rattle.start_numbers.proofs.limit_right.Tie as tie
 
 returns : tie.Need-returns
 returns c = limit-zero _ _ (c .if1 .taken)
