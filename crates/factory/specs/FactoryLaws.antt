@@ -7,14 +7,12 @@ use mathlib.Core.Option.{Option, none, some}
 use native.Mathlib.Omega.{arith}
 use borrow.Author.Tests.{lt-ltb, le-ltb, le-leb, lt-leb, leb-true, eq-eqb, ne-eqb, eqb-true}
 use lib.Dec.{leb, eqb, ltb}
-use lib.Ieee.{Float, binary64, ofBits, add, mul, div}
+use lib.Ieee.{Float}
 use lib.ListN.{length, getD, take, drop}
 use lib.Seq.{take-all}
 use Rattle.ieee.specs.Special.{zero-bits}
 use Rattle.matrix_operations.specs.Firsts.{firsts}
 use Rattle.matrix_operations.specs.Laws.{length-firsts}
-use Rattle.model.specs.Constants.{two}
-use Rattle.model.specs.Literals.{two-bits}
 use Rattle.model.specs.Process.{Kind, Answer, refused, failed, Process, ask, score, begin, stop, PsiQuestion}
 use Rattle.model.specs.Refusals.{Reply, number, vector, yes, no, failure, unless, sizesRight, xiLength, mappingsRight, psiRefusal, penaltyIn, multipliersIn, wanted, given, asNumber, asVector, asDecision, fitsKind, fitsPlaces, fitsLength, answerRefusal, replied, accept}
 use Rattle.factory.specs.declared.alm_factory.Sizes.{Sizes}
@@ -48,10 +46,6 @@ sound-n2 s h = leb-true _ _ (and-right (leb (s .n1) 32) _ (and-right (leb (s .n)
 -- a copy of a slice of the length asked
 pub taken : (n : ℕ) (v a : List Float) → length v ≡ n → firsts (length v) a ≡ v → firsts n a ≡ v
 taken n v a l e = rw (← l) e
-
--- (c/2) × x added, at the code's 2
-pub penalized-is : (v c x : Float) → add binary64 v (mul binary64 (div binary64 c (ofBits binary64 4611686018427387904)) x) ≡ add binary64 v (mul binary64 (div binary64 c (two binary64)) x)
-penalized-is v c x = ap (λ (z : Float). add binary64 v (mul binary64 (div binary64 c z) x)) two-bits
 
 -- ---- the table at an answer
 seven-not : {X : Type 0} → _≡_ {A = ℕ} 7 0 → X

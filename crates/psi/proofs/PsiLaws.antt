@@ -6,13 +6,12 @@ use mathlib.Core.List.{List}
 use mathlib.Core.Option.{Option, none, some}
 use native.Mathlib.Omega.{arith}
 use borrow.Author.Tests.{eq-eqb, ne-eqb}
-use lib.Ieee.{Float, binary64, ofBits, add, mul, div}
+use lib.Ieee.{Float, binary64, add, mul, div}
 use lib.ListN.{length}
 use Rattle.ieee.specs.Numbers.{larger}
 use Rattle.ieee.specs.Sums.{squares}
 use Rattle.matrix_operations.specs.Firsts.{firsts}
 use Rattle.model.specs.Constants.{one, two}
-use Rattle.model.specs.Literals.{one-bits}
 use Rattle.model.specs.Vectors.{minus, plusOver}
 use Rattle.model.specs.Process.{Kind, handed, refused, failed, ask, stop}
 use Rattle.model.specs.Process as M
@@ -35,10 +34,6 @@ use Rattle.factory.specs.FactoryCalls.{PsiReaches, PsiAnswers}
 use Rattle.factory.specs.FactoryBoard.{Sound, PsiBoard, psiRunOf, psiGave, withValue, psiStepped, PsiTakes, psiF2At, psiKindAt, psiKind, psiW, psiTW}
 use Rattle.factory.specs.FactoryLaws.{taken, wanted-any, accepted-any, accepted-number, accepted-yes, accepted-no, accepted-length, vector-for-number, vector-for-none, accepted-failure}
 use Rattle.factory.specs.PsiRest.{rest-at, rest-over, asks-comes}
-
--- the divisor, at the code's 1
-pub divisor-is : (c m : Float) → m ≡ larger c (ofBits binary64 4607182418800017408) → m ≡ larger c (one binary64)
-divisor-is c m e = e ∙ ap (larger c) one-bits
 
 -- ---- what a run waits for
 kind-at : (s : PsiState) (b : PsiBoard) (p : PsiPhase) → wanted (psiResume (psiRunOf s b) p) ≡ psiKindAt (s .sizes) p

@@ -2,10 +2,8 @@
 ghost use mathlib.Core.Path.{_≡_};
 ghost use mathlib.Core.Bool.{true};
 ghost use mathlib.Core.List.{List};
-ghost use lib.Ieee.{Float, binary64, add, mul, div};
+ghost use lib.Ieee.{Float};
 ghost use lib.ListN.{length};
-ghost use Rattle.ieee.specs.Numbers.{larger};
-ghost use Rattle.model.specs.Constants.{one, two};
 ghost use Rattle.model.specs.Refusals.{answerRefusal};
 ghost use Rattle.panoc_core.specs.Values.{replyOf, kindOf};
 ghost use Rattle.factory.specs.FactoryCalls.{PsiReaches, PsiAnswers};
@@ -21,6 +19,8 @@ use factory::alm_factory::start::sound;
 use panoc_core::panoc_cache::Reply;
 use panoc_core::refusals::Wanted;
 use panoc_core::refusals::refusal;
+use penalty_terms::divisor;
+use penalty_terms::penalized;
 use psi_starts::refuses;
 
 // On to another phase, with what the call says.
@@ -35,20 +35,6 @@ fn to(s: PsiState, phase: PsiPhase, outcome: PsiOutcome) -> PsiStepped
         value: s.value,
     };
     PsiStepped { outcome, state }
-}
-
-// What y is divided by: the larger of the penalty and 1.
-fn divisor(penalty: f64) -> f64
-    ensures { λ r. ⌜ r ≡ larger penalty (one binary64) ⌝ }
-{
-    numeric::max(penalty, 1.0)
-}
-
-// The value with (c/2) × x added.
-fn penalized(value: f64, c: f64, x: f64) -> f64
-    ensures { λ r. ⌜ r ≡ add binary64 value (mul binary64 (div binary64 c (two binary64)) x) ⌝ }
-{
-    value + c / 2.0 * x
 }
 
 // The part of F1 is in the value: F2, or the end where there is none.

@@ -1,6 +1,6 @@
-use Rattle.psi.proofs.PsiLaws.{divisor-is}
-use Rattle.psi.proofs.divisor.Statement.{statement}
-use Rattle.psi.proofs.divisor.Tie as tie
+use Rattle.penalty_terms.proofs.TermLaws.{divisor-is}
+use Rattle.penalty_terms.proofs.divisor.Statement.{statement}
+use Rattle.penalty_terms.proofs.divisor.Tie as tie
 
 max-requires : tie.Need-max-requires
 max-requires c κs = tt

@@ -1,9 +1,0 @@
-use Rattle.factory.specs.FactoryLaws.{penalized-is}
-use Rattle.psi.proofs.penalized.Statement.{statement}
-use Rattle.psi.proofs.penalized.Tie as tie
-
-returns : tie.Need-returns
-returns c = penalized-is _ _ _
-
-pub penalized-spec : {M : Type 1} → statement M
-penalized-spec = tie.close (tie.spec returns)
