@@ -9,7 +9,8 @@ ghost use Rattle.model.specs.Vectors.{plusTimes};
 ghost use Rattle.model.specs.Refusals.{answerRefusal};
 ghost use Rattle.panoc_core.specs.Values.{replyOf, kindOf};
 ghost use Rattle.factory.specs.FactoryCalls.{DPsiAnswers};
-ghost use Rattle.factory.specs.FactoryBoard.{Sound, DPsiBoard, DPsiComes, DPsiTakes, dPsiRunOf, dPsiGave, dPsiStepped, dPsiKind, dPsiF2At, given, dPsiG, dPsiGW, dPsiD, dPsiYTW, dPsiTDW, dPsiFive};
+ghost use Rattle.factory.specs.FactoryBoard.{Sound, DPsiBoard, DPsiComes, DPsiTakes, dPsiRunOf, dPsiGave, dPsiStepped, dPsiKind, dPsiF2At, dPsiG, dPsiGW, dPsiD, dPsiYTW, dPsiTDW, dPsiFive};
+use d_psi_result::hand_out;
 use d_psi_starts::refuses;
 use factory::alm_factory::DPsiAnswered;
 use factory::alm_factory::DPsiOutcome;
@@ -211,19 +212,6 @@ fn step(
         Reply::Number(_) => refuses(s, 7),
         Reply::Yes => refuses(s, 7),
         Reply::No => refuses(s, 7),
-    }
-}
-
-// The result of an end goes from the gradient into the lent slice.
-fn hand_out(o: DPsiOutcome, gradient: &[f64; 64], result: &mut [f64])
-    requires { ⌜ length (now result) ≤ 64 ⌝ }
-    ensures { λ _. ⌜ now (result .exit) ≡ given o (firsts (length (now (result .entry))) (now (gradient .entry))) (now (result .entry)) ⌝ }
-{
-    match o {
-        DPsiOutcome::Ended => vector_copies::give(gradient, result),
-        DPsiOutcome::Asked(_) => {}
-        DPsiOutcome::Refused(_) => {}
-        DPsiOutcome::Failed(_) => {}
     }
 }
 

@@ -1,8 +1,8 @@
 use mathlib.Core.Path.{refl}
 use Rattle.factory.specs.FactoryBoard.{given}
 use borrow.Author.Needs.{needs}
-use Rattle.d_psi.proofs.hand_out.Statement.{statement}
-use Rattle.d_psi.proofs.hand_out.Tie as tie
+use Rattle.d_psi_result.proofs.hand_out.Statement.{statement}
+use Rattle.d_psi_result.proofs.hand_out.Tie as tie
 
 enum-told : tie.Need-enum-told
 enum-told c = c .match .keys1
