@@ -1,2 +1,1 @@
-pub mod LoopPoints
 pub mod LoopPointLaws

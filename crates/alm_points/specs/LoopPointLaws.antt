@@ -1,5 +1,5 @@
 -- What the calls for the points need: the lengths and contents of the question of each phase. Assumes nothing.
-use Prim.Native.Nat.{ℕ, _+_, _≤_}
+use Prim.Native.Nat.{ℕ, _+_}
 use mathlib.Core.Path.{_≡_, refl, sym, ap, _∙_, subst}
 use mathlib.Core.Bool.{Bool, true, false, cond, _&&_}
 use mathlib.Core.List.{List, [], _∷_}
@@ -24,7 +24,7 @@ use Rattle.panoc_core.specs.Wanted as InnerWanted
 use Rattle.panoc_core.specs.Board as Inner
 use Rattle.panoc_core.specs.Board.{waiting}
 use Rattle.panoc_core.specs.Calls as Solve
-use Rattle.panoc_places.specs.Points.{Facts, facts-at, empty, waiting-kind, first-fits, second-fits}
+use Rattle.panoc_places.specs.Points.{Facts, facts-at, empty, waiting-kind}
 use Rattle.panoc_places.specs.Points as InnerPoints
 use Rattle.panoc_core.specs.declared.panoc_cache.Phase.{Phase}
 use Rattle.panoc_core.specs.declared.panoc_cache.Phase.the-variants as IP
@@ -32,13 +32,13 @@ use Rattle.panoc_core.specs.declared.panoc_cache.Run.{Run}
 use Rattle.alm_core.specs.Values.{settingsOf, firstPoint, secondPoint, carriedSecond}
 use Rattle.alm_core.specs.Rest.{LoopBoard, rest, resume}
 use Rattle.alm_core.specs.Board.{Sound}
-use Rattle.alm_core.specs.Laws.{rest-sound, sized-n, sized-n1, counts-n}
+use Rattle.alm_core.specs.Laws.{rest-sound}
 use Rattle.alm_core.specs.declared.alm_cache.Alm.{Alm}
 use Rattle.alm_core.specs.declared.alm_cache.AlmPhase.{AlmPhase}
 use Rattle.alm_core.specs.declared.alm_cache.AlmPhase.the-variants as P
 use Rattle.alm_calls.specs.LoopCalls.{wantedOf, runOf, xiGiven, asking, pointsRefusal, Points}
-use Rattle.alm_calls.specs.LoopLaws.{wanted-is, wanted-sound, wanted-phase, sound-sized, sound-ready, xi-at}
-use Rattle.alm_points.specs.LoopPoints.{carriesXi, firstPlaces, innerSecond, secondPlaces, firstAt, innerSecondAt, secondAt}
+use Rattle.alm_calls.specs.LoopLaws.{wanted-is, wanted-sound, wanted-phase, xi-at}
+use Rattle.alm_vectors.specs.LoopPoints.{carriesXi, firstPlaces, innerSecond, secondPlaces, firstAt, secondAt}
 
 -- ---- the length of xi
 pub xi-places-none : (n1 n2 : ℕ) → n1 ≡ 0 → n2 ≡ 0 → 0 ≡ xiLength n1 n2
@@ -52,31 +52,6 @@ xi-places-n2 n1 n2 a b = rw (eq-eqb _ _ a, ne-eqb _ _ b)
 pub xi-places-n1 : (n1 n2 : ℕ) → (n1 ≡ 0 → ⊥) → n1 + 1 ≡ xiLength n1 n2
 unfolding xiLength
 xi-places-n1 n1 n2 a = rw (ne-eqb _ _ a)
-
-pub xi-room : (n1 n2 : ℕ) → n1 ≤ 32 → xiLength n1 n2 ≤ 33
-unfolding xiLength
-xi-room n1 n2 a = by (eqb n1 0 && eqb n2 0)
-  where
-    by : (c : Bool) → cond c 0 (n1 + 1) ≤ 33
-    by true = omega arith
-    by false = omega arith
-
--- ---- the points have room
-pub sound-wide : (s : Alm) → Sound s → (s .set .n ≤ 64) × (s .set .n1 ≤ 32)
-sound-wide s h = (sized-n s (sound-sized s h), sized-n1 s (sound-sized s h))
-
-pub sound-inner : (s : Alm) → Sound s → s .phase ≡ P.Inner → s .solve .set .n ≤ 64
-sound-inner s h e = let r = sound-ready s P.Inner h e refl in omega (arith, counts-n s (r .1), sized-n s (r .0))
-
-pub first-room : (s : Alm) (p : AlmPhase) → Sound s → s .phase ≡ p → firstPlaces s p ≤ 64
-first-room s P.Time h e = omega arith
-first-room s P.ProjectY h e = omega (arith, sound-wide s h .1)
-first-room s P.Inner h e = omega (arith, first-fits (s .solve .set .n) (s .solve .phase), sound-inner s h e)
-first-room s P.F1 h e = sound-wide s h .0
-first-room s P.ProjectC h e = omega (arith, sound-wide s h .1)
-first-room s P.F2 h e = sound-wide s h .0
-first-room s P.LastCost h e = sound-wide s h .0
-first-room s P.Over h e = omega arith
 
 -- ---- the inner solve's question within the loop's
 module _ (xi : List Float) (next : M.Handed → M.Loop) where
@@ -284,30 +259,9 @@ module _ (s : Alm) (b : LoopBoard) (xs ys : List Float) (t : Bool) (te : t ≡ w
         }
 
 -- ---- what the parts cite
-pub point-at : (s : Alm) (b : LoopBoard) (p : AlmPhase) (xs : List Float) {xs′ : List Float} → s .phase ≡ p → xs′ ≡ firstAt s b p xs → xs′ ≡ firstAt s b (s .phase) xs
-point-at s b p xs {xs′} e x = x ∙ sym (ap (λ (z : AlmPhase). firstAt s b z xs) e)
-
-pub second-at : (s : Alm) (u y : List Float) (p : AlmPhase) (ys : List Float) {ys′ : List Float} → s .phase ≡ p → ys′ ≡ secondAt s u y p ys → ys′ ≡ secondAt s u y (s .phase) ys
-second-at s u y p ys {ys′} e x = x ∙ sym (ap (λ (z : AlmPhase). secondAt s u y z ys) e)
-
 module _ (s : Alm) (t : Bool) (te : t ≡ carriesXi (s .solve .phase)) where
   pub places-with : {r : ℕ} → t ≡ true → r ≡ xiLength (s .set .n1) (s .set .n2) → r ≡ innerSecond s
   places-with {r} q e = e ∙ sym (ap (λ (c : Bool). cond c (xiLength (s .set .n1) (s .set .n2)) (Inner.secondPlaces (s .solve .set .n) (s .solve .phase))) (sym te ∙ q))
 
   pub places-without : {r : ℕ} → t ≡ false → r ≡ Inner.secondPlaces (s .solve .set .n) (s .solve .phase) → r ≡ innerSecond s
   places-without {r} q e = e ∙ sym (ap (λ (c : Bool). cond c (xiLength (s .set .n1) (s .set .n2)) (Inner.secondPlaces (s .solve .set .n) (s .solve .phase))) (sym te ∙ q))
-
-  pub room-with : {l : ℕ} → t ≡ true → s .set .n1 ≤ 32 → l ≡ innerSecond s → l ≤ 33
-  room-with {l} q h e =
-      omega (arith, xi-room (s .set .n1) (s .set .n2) h, e ∙ ap (λ (c : Bool). cond c (xiLength (s .set .n1) (s .set .n2)) (Inner.secondPlaces (s .solve .set .n) (s .solve .phase))) (sym te ∙ q))
-
-  pub room-without : {l : ℕ} → t ≡ false → s .solve .set .n ≤ 64 → l ≡ innerSecond s → l ≤ 64
-  room-without {l} q h e =
-      omega (arith, second-fits (s .solve .set .n) (s .solve .phase), h, e ∙ ap (λ (c : Bool). cond c (xiLength (s .set .n1) (s .set .n2)) (Inner.secondPlaces (s .solve .set .n) (s .solve .phase))) (sym te ∙ q))
-
-  module _ (u y ys : List Float) {ys′ : List Float} where
-    pub second-with : t ≡ true → ys′ ≡ xiGiven (s .numbers .penalty) y ys → ys′ ≡ innerSecondAt s u y ys
-    second-with q e = e ∙ sym (ap (λ (c : Bool). cond c (xiGiven (s .numbers .penalty) y ys) (firsts (length ys) u)) (sym te ∙ q))
-
-    pub second-without : t ≡ false → ys′ ≡ firsts (length ys) u → ys′ ≡ innerSecondAt s u y ys
-    second-without q e = e ∙ sym (ap (λ (c : Bool). cond c (xiGiven (s .numbers .penalty) y ys) (firsts (length ys) u)) (sym te ∙ q))

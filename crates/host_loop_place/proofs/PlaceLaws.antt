@@ -24,7 +24,7 @@ use Rattle.alm_core.specs.Rest.{LoopBoard}
 use Rattle.alm_core.specs.Values.{firstPoint}
 use Rattle.alm_calls.specs.LoopCalls.{wantedOf, runOf, restOf, asking}
 use Rattle.alm_calls.specs.LoopLaws.{wanted-is, wanted-phase}
-use Rattle.alm_points.specs.LoopPoints.{firstPlaces, firstAt}
+use Rattle.alm_vectors.specs.LoopPoints.{firstPlaces, firstAt}
 use Rattle.alm_points.specs.LoopPointLaws.{LoopFacts, waits-facts}
 use Rattle.host_points.specs.Places as Inner
 use Rattle.host_loop_place.specs.Places.{holders, placeOf, Lies}

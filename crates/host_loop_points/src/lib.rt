@@ -1,7 +1,7 @@
 // The points of a lent loop's question for C, copied.
 ghost use Rattle.alm_core.specs.Rest.{LoopBoard};
 ghost use Rattle.alm_calls.specs.LoopCalls.{Points, runOf};
-ghost use Rattle.alm_points.specs.LoopPoints.{asked};
+ghost use Rattle.alm_vectors.specs.LoopPoints.{asked};
 ghost use Rattle.alm_image.specs.AlmImage.{almOf};
 use alm_image::lent::alm_of;
 use alm_points::points_in_place;

@@ -20,8 +20,9 @@ use Rattle.alm_core.specs.Rest.{LoopBoard}
 use Rattle.alm_core.specs.Board.{Sound}
 use Rattle.alm_core.specs.Values.{firstPoint, secondPoint}
 use Rattle.alm_calls.specs.LoopCalls.{wantedOf, runOf, pointsRefusal, xiGiven}
-use Rattle.alm_points.specs.LoopPoints.{carriesXi, firstPlaces, secondPlaces, firstAt, secondAt}
-use Rattle.alm_points.specs.LoopPointLaws.{points-over, points-second, points-given, places-with, places-without, room-with, room-without, second-with, second-without, sound-wide, sound-inner, xi-room}
+use Rattle.alm_vectors.specs.LoopPoints.{carriesXi, firstPlaces, secondPlaces, firstAt, secondAt}
+use Rattle.alm_points.specs.LoopPointLaws.{points-over, points-second, points-given, places-with, places-without}
+use Rattle.alm_vectors.specs.VectorLaws.{room-with, room-without, second-with, second-without, sound-wide, sound-inner, xi-room}
 use Rattle.image.specs.Image as I
 use Rattle.alm_image.specs.AlmImage.{phaseOf, almOf}
 use Rattle.host_loop_second.specs.Second.{Second, secondRefusal}

@@ -1,5 +1,5 @@
 use mathlib.Core.Path.{ap, sym, _∙_}
-use Rattle.alm_points.specs.LoopPoints.{firstPlaces}
+use Rattle.alm_vectors.specs.LoopPoints.{firstPlaces}
 use borrow.Author.Needs.{needs}
 use Rattle.alm_points.proofs.first_places.Statement.{statement}
 use Rattle.alm_points.proofs.first_places.Tie as tie

@@ -1,6 +1,7 @@
 use mathlib.Core.Path.{sym, _∙_}
-use Rattle.alm_points.specs.LoopPointLaws.{waiting-sound, sound-wide, points-over, points-first, points-second, points-given}
-use Rattle.alm_points.specs.LoopPoints.{asked}
+use Rattle.alm_points.specs.LoopPointLaws.{waiting-sound, points-over, points-first, points-second, points-given}
+use Rattle.alm_vectors.specs.VectorLaws.{sound-wide}
+use Rattle.alm_vectors.specs.LoopPoints.{asked}
 use borrow.Author.Needs.{needs}
 use Rattle.alm_points.proofs.points_in_place.Statement.{statement}
 use Rattle.alm_points.proofs.points_in_place.Tie as tie

@@ -1,5 +1,5 @@
 use mathlib.Core.Path.{ap, sym, _∙_}
-use Rattle.alm_points.specs.LoopPoints.{secondPlaces}
+use Rattle.alm_vectors.specs.LoopPoints.{secondPlaces}
 use borrow.Author.Needs.{needs}
 use Rattle.alm_points.proofs.second_places.Statement.{statement}
 use Rattle.alm_points.proofs.second_places.Tie as tie

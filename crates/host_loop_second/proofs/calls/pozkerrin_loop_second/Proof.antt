@@ -1,6 +1,7 @@
 use Rattle.host_loop_second.proofs.SecondLaws.{second-over, second-given, second-refused}
 use Rattle.alm_image.specs.AlmImage.{almOf}
-use Rattle.alm_points.specs.LoopPointLaws.{waiting-sound, sound-wide}
+use Rattle.alm_points.specs.LoopPointLaws.{waiting-sound}
+use Rattle.alm_vectors.specs.VectorLaws.{sound-wide}
 use Rattle.alm_core.specs.Board.{setU, setY}
 use Rattle.panoc_core.specs.Board.{waiting}
 use mathlib.Core.Path.{ap, sym, _∙_}

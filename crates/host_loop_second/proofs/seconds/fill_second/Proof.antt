@@ -1,6 +1,6 @@
 use Rattle.host_loop_second.proofs.SecondLaws.{room-xi, room-own, room-last, filled-xi, filled-own, filled-last, filled-none}
 use Rattle.alm_image.specs.AlmImage.{almOf}
-use Rattle.alm_points.specs.LoopPoints.{carriesXi}
+use Rattle.alm_vectors.specs.LoopPoints.{carriesXi}
 use mathlib.Core.Path.{ap, _∙_}
 use borrow.Author.Needs.{needs}
 use Rattle.host_loop_second.proofs.seconds.fill_second.Statement.{statement}

@@ -1,7 +1,7 @@
 use Rattle.host_loop_second.proofs.SecondLaws.{places-xi, places-own, places-last, places-none}
 use Rattle.alm_image.specs.AlmImage.{almOf}
 use Rattle.panoc_core.specs.Board.{secondPlaces}
-use Rattle.alm_points.specs.LoopPoints.{carriesXi}
+use Rattle.alm_vectors.specs.LoopPoints.{carriesXi}
 use mathlib.Core.Path.{ap, _∙_}
 use borrow.Author.Needs.{needs}
 use Rattle.host_loop_second.proofs.seconds.places.Statement.{statement}

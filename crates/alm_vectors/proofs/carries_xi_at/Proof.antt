@@ -1,8 +1,8 @@
 use mathlib.Core.Path.{ap, sym}
-use Rattle.alm_points.specs.LoopPoints.{carriesXi}
+use Rattle.alm_vectors.specs.LoopPoints.{carriesXi}
 use borrow.Author.Needs.{needs}
-use Rattle.alm_points.proofs.carries_xi_at.Statement.{statement}
-use Rattle.alm_points.proofs.carries_xi_at.Tie as tie
+use Rattle.alm_vectors.proofs.carries_xi_at.Statement.{statement}
+use Rattle.alm_vectors.proofs.carries_xi_at.Tie as tie
 
 enum-told : tie.Need-enum-told
 enum-told c = search needs

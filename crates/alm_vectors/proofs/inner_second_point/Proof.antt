@@ -1,7 +1,7 @@
-use Rattle.alm_points.specs.LoopPointLaws.{room-with, room-without, second-with, second-without}
+use Rattle.alm_vectors.specs.VectorLaws.{room-with, room-without, second-with, second-without}
 use borrow.Author.Needs.{needs}
-use Rattle.alm_points.proofs.inner_second_point.Statement.{statement}
-use Rattle.alm_points.proofs.inner_second_point.Tie as tie
+use Rattle.alm_vectors.proofs.inner_second_point.Statement.{statement}
+use Rattle.alm_vectors.proofs.inner_second_point.Tie as tie
 
 carries-xi-requires : tie.Need-carries-xi-requires
 carries-xi-requires c κs = search needs

@@ -1,0 +1,2 @@
+pub mod LoopPoints
+pub mod VectorLaws
