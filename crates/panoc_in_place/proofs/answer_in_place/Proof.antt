@@ -7,8 +7,8 @@ use lib.ListN.{length}
 use Rattle.panoc_core.specs.Board.{nine}
 use Rattle.panoc_answers.proofs.AnswerLaws.{answer-goes, answer-refused, answer-fits, answer-length, refusal-wanted}
 use borrow.Author.Needs.{needs}
-use Rattle.panoc.proofs.panoc_optimizer.answer_in_place.Statement.{statement}
-use Rattle.panoc.proofs.panoc_optimizer.answer_in_place.Tie as tie
+use Rattle.panoc_in_place.proofs.answer_in_place.Statement.{statement}
+use Rattle.panoc_in_place.proofs.answer_in_place.Tie as tie
 
 wants-requires : tie.Need-wants-requires
 wants-requires c κs = search needs
