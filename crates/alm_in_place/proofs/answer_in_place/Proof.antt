@@ -1,7 +1,7 @@
 use Rattle.alm_calls.specs.LoopLaws.{refusal-wanted, answer-fits, answer-plan, answer-xi, answer-goes, answer-refused}
 use borrow.Author.Needs.{needs}
-use Rattle.alm.proofs.alm_optimizer.answer_in_place.Statement.{statement}
-use Rattle.alm.proofs.alm_optimizer.answer_in_place.Tie as tie
+use Rattle.alm_in_place.proofs.answer_in_place.Statement.{statement}
+use Rattle.alm_in_place.proofs.answer_in_place.Tie as tie
 
 lent-fits-requires : tie.Need-lent-fits-requires
 lent-fits-requires c κs = search needs
