@@ -1,23 +1,21 @@
 // What a line of a script says: TRANSCRIPT.md, "Calls that start a run" and "Calls that answer".
-mod answers;
-
 ghost use lib.ListN.{length};
 ghost use Rattle.line_starts.specs.Lines.{Says, meant};
-use answers::bare;
-use answers::failure;
-use answers::lend;
-use answers::number;
-use answers::vector;
 use keywords::Keyword;
 use keywords::begins;
+use line_answers::bare;
+use line_answers::failure;
+use line_answers::lend;
+use line_answers::number;
+use line_answers::vector;
 use line_starts::alone;
 use line_starts::command::Command;
 use line_starts::command::Given;
 use line_starts::command::Said;
-use line_starts::d_psi;
-use line_starts::inner;
-use line_starts::outer;
-use line_starts::psi;
+use run_lines::d_psi;
+use run_lines::inner;
+use run_lines::outer;
+use run_lines::psi;
 use words::word;
 
 // What a line says; the floats go into the lent slices, which have as many places as may be lent.

@@ -3,7 +3,7 @@ use mathlib.Core.Path.{sym, _∙_}
 use lib.ListN.{length}
 use Rattle.line_starts.specs.Lines.{lineBy}
 use Rattle.keywords.specs.declared.Keyword.{Keyword}
-use Rattle.line_starts.specs.LineLaws.{said-by}
+use Rattle.script.proofs.SaidLaws.{said-by}
 use borrow.Author.Needs.{needs}
 use Rattle.script.proofs.said.Statement.{statement}
 use Rattle.script.proofs.said.Tie as tie

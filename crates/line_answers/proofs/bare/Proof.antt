@@ -1,9 +1,9 @@
--- `script::answers::bare` meets its contract: nothing is left, or something is. Assumes nothing.
+-- `line_answers::bare` meets its contract: nothing is left, or something is. Assumes nothing.
 use mathlib.Core.Path.{sym, _∙_}
-use Rattle.line_starts.specs.LineLaws.{says-closed, says-open}
+use Rattle.line_answers.proofs.AnswerLaws.{says-closed, says-open}
 use borrow.Author.Needs.{needs}
-use Rattle.script.proofs.answers.bare.Statement.{statement}
-use Rattle.script.proofs.answers.bare.Tie as tie
+use Rattle.line_answers.proofs.bare.Statement.{statement}
+use Rattle.line_answers.proofs.bare.Tie as tie
 
 ended-requires : tie.Need-ended-requires
 ended-requires c κs = search needs

@@ -1,9 +1,10 @@
--- `script::answers::lend` meets its contract: by its two fields, each within its limit. Assumes nothing.
+-- `line_answers::lend` meets its contract: by its two fields, each within its limit. Assumes nothing.
 use Rattle.line_fields.specs.Fields.{leftAt}
-use Rattle.line_starts.specs.LineLaws.{says-as, lend-over, lend-over-xi, lend-within}
+use Rattle.line_starts.specs.LineLaws.{says-as}
+use Rattle.line_answers.proofs.AnswerLaws.{lend-over, lend-over-xi, lend-within}
 use borrow.Author.Needs.{needs}
-use Rattle.script.proofs.answers.lend.Statement.{statement}
-use Rattle.script.proofs.answers.lend.Tie as tie
+use Rattle.line_answers.proofs.lend.Statement.{statement}
+use Rattle.line_answers.proofs.lend.Tie as tie
 
 whole-at-requires : tie.Need-whole-at-requires
 whole-at-requires c κs = search needs

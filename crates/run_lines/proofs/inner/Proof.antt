@@ -1,11 +1,12 @@
--- `line_starts::inner` meets its contract: by its fields and floats, with nothing left. Assumes nothing.
+-- `run_lines::inner` meets its contract: by its fields and floats, with nothing left. Assumes nothing.
 use mathlib.Core.Path.{sym, _∙_}
 use lib.ListN.{length}
 use Rattle.line_fields.specs.Fields.{leftAt}
-use Rattle.line_starts.specs.LineLaws.{says-as, inner-yes, inner-no}
+use Rattle.line_starts.specs.LineLaws.{says-as}
+use Rattle.run_lines.proofs.StartLaws.{inner-yes, inner-no}
 use borrow.Author.Needs.{needs}
-use Rattle.line_starts.proofs.inner.Statement.{statement}
-use Rattle.line_starts.proofs.inner.Tie as tie
+use Rattle.run_lines.proofs.inner.Statement.{statement}
+use Rattle.run_lines.proofs.inner.Tie as tie
 
 whole-at-requires : tie.Need-whole-at-requires
 whole-at-requires c κs = search needs

@@ -1,9 +1,9 @@
--- `script::answers::number` meets its contract: by its one field. Assumes nothing.
+-- `line_answers::number` meets its contract: by its one field. Assumes nothing.
 use Rattle.line_fields.specs.Fields.{leftAt}
-use Rattle.line_starts.specs.LineLaws.{says-number}
+use Rattle.line_answers.proofs.AnswerLaws.{says-number}
 use borrow.Author.Needs.{needs}
-use Rattle.script.proofs.answers.number.Statement.{statement}
-use Rattle.script.proofs.answers.number.Tie as tie
+use Rattle.line_answers.proofs.number.Statement.{statement}
+use Rattle.line_answers.proofs.number.Tie as tie
 
 float-at-requires : tie.Need-float-at-requires
 float-at-requires c κs = search needs

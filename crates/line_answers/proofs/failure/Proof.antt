@@ -1,9 +1,9 @@
--- `script::answers::failure` meets its contract: by its one field. Assumes nothing.
+-- `line_answers::failure` meets its contract: by its one field. Assumes nothing.
 use Rattle.line_fields.specs.Fields.{leftAt}
-use Rattle.line_starts.specs.LineLaws.{says-failure}
+use Rattle.line_answers.proofs.AnswerLaws.{says-failure}
 use borrow.Author.Needs.{needs}
-use Rattle.script.proofs.answers.failure.Statement.{statement}
-use Rattle.script.proofs.answers.failure.Tie as tie
+use Rattle.line_answers.proofs.failure.Statement.{statement}
+use Rattle.line_answers.proofs.failure.Tie as tie
 
 code-at-requires : tie.Need-code-at-requires
 code-at-requires c κs = search needs

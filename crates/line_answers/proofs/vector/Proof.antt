@@ -1,11 +1,12 @@
--- `script::answers::vector` meets its contract: by its floats, with nothing left. Assumes nothing.
+-- `line_answers::vector` meets its contract: by its floats, with nothing left. Assumes nothing.
 use mathlib.Core.Path.{sym, _∙_}
 use lib.ListN.{length}
 use Rattle.line_fields.specs.Fields.{leftAt}
-use Rattle.line_starts.specs.LineLaws.{says-as, vector-yes, vector-no}
+use Rattle.line_starts.specs.LineLaws.{says-as}
+use Rattle.line_answers.proofs.AnswerLaws.{vector-yes, vector-no}
 use borrow.Author.Needs.{needs}
-use Rattle.script.proofs.answers.vector.Statement.{statement}
-use Rattle.script.proofs.answers.vector.Tie as tie
+use Rattle.line_answers.proofs.vector.Statement.{statement}
+use Rattle.line_answers.proofs.vector.Tie as tie
 
 floats-at-requires : tie.Need-floats-at-requires
 floats-at-requires c κs = search needs

@@ -1,10 +1,11 @@
--- `line_starts::psi` meets its contract: by its fields. Assumes nothing.
+-- `run_lines::psi` meets its contract: by its fields. Assumes nothing.
 use lib.ListN.{length}
 use Rattle.line_fields.specs.Fields.{leftAt}
-use Rattle.line_starts.specs.LineLaws.{says-as, psi-is}
+use Rattle.line_starts.specs.LineLaws.{says-as}
+use Rattle.run_lines.proofs.StartLaws.{psi-is}
 use borrow.Author.Needs.{needs}
-use Rattle.line_starts.proofs.psi.Statement.{statement}
-use Rattle.line_starts.proofs.psi.Tie as tie
+use Rattle.run_lines.proofs.psi.Statement.{statement}
+use Rattle.run_lines.proofs.psi.Tie as tie
 
 whole-at-requires : tie.Need-whole-at-requires
 whole-at-requires c κs = search needs
