@@ -1,12 +1,13 @@
 // An answer to d_psi, the gradient of psi, for C, as the crate host has it for the inner solve.
 ghost use Rattle.factory.specs.FactoryBoard.{DPsiBoard, dPsiRunOf, dPsiGave, dPsiFive};
 ghost use Rattle.factory.specs.FactoryCalls.{DPsiAnswers};
-ghost use Rattle.psi_image.specs.PsiImage.{replyOf, dPsiOf, dPsiStepOf};
+ghost use Rattle.psi_image.specs.PsiImage.{dPsiOf, dPsiStepOf};
+ghost use Rattle.psi_kinds.specs.PsiKinds.{replyOf};
 use d_psi::answer_in_place;
 use psi_image::d_psi::d_psi_of;
 use psi_image::d_psi::keep_d_psi;
 use psi_image::d_psi::tell_d_psi;
-use psi_image::kinds::reply_of;
+use psi_kinds::reply_of;
 
 // An answer to the question of a run; the result goes into the lent slice. A kind of none is answered as a no, which d_psi never takes.
 #[no_mangle]

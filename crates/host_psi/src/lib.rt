@@ -1,12 +1,13 @@
 // An answer to psi, the penalty function, for C, as the crate host has it for the inner solve.
 ghost use Rattle.factory.specs.FactoryBoard.{PsiBoard, psiRunOf, psiGave, psiYTW};
 ghost use Rattle.factory.specs.FactoryCalls.{PsiAnswers};
-ghost use Rattle.psi_image.specs.PsiImage.{replyOf, psiOf, psiStepOf};
+ghost use Rattle.psi_image.specs.PsiImage.{psiOf, psiStepOf};
+ghost use Rattle.psi_kinds.specs.PsiKinds.{replyOf};
 use psi::answer_in_place;
-use psi_image::kinds::reply_of;
 use psi_image::psi::keep_psi;
 use psi_image::psi::psi_of;
 use psi_image::psi::tell_psi;
+use psi_kinds::reply_of;
 
 // An answer to the question of a run. A kind of none is answered as a no, which psi never takes: 6 where the run has ended, else 7.
 #[no_mangle]

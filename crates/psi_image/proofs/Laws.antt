@@ -1,8 +1,7 @@
 -- The numbers of a lent run of psi or d_psi, there and back. Assumes nothing.
-use Prim.Native.Nat.{ℕ, _+_, _≤_}
+use Prim.Native.Nat.{ℕ}
 use mathlib.Core.Path.{_≡_, refl, ap, _∙_}
 use mathlib.Core.List.{List, [], _∷_}
-use native.Mathlib.Omega.{arith}
 use lib.Ieee.{Float, nan}
 use lib.ListN.{getD}
 use Rattle.factory.specs.declared.alm_factory.DPsiOutcome.{DPsiOutcome}
@@ -17,11 +16,8 @@ use Rattle.factory.specs.declared.alm_factory.PsiPhase.the-variants as P
 use Rattle.factory.specs.declared.alm_factory.PsiQuestion.{PsiQuestion}
 use Rattle.factory.specs.declared.alm_factory.PsiQuestion.the-variants as Q
 use Rattle.factory.specs.declared.alm_factory.PsiState.{PsiState}
-use Rattle.psi_image.specs.PsiImage.{psiPhaseOf, psiPhaseNumber, dPsiPhaseOf, dPsiPhaseNumber, questionOf, questionNumber, psiOf, PsiTells, dPsiOf, DPsiTells, noted, psiEnd}
-
--- a number from k on that is not k
-pub above : (k p : ℕ) → k ≤ p → (p ≡ k → ⊥) → k + 1 ≤ p
-above k p h e = omega (arith, h, e)
+use Rattle.psi_kinds.specs.PsiKinds.{psiPhaseOf, psiPhaseNumber, dPsiPhaseOf, dPsiPhaseNumber, questionOf, questionNumber}
+use Rattle.psi_image.specs.PsiImage.{psiOf, PsiTells, dPsiOf, DPsiTells, noted, psiEnd}
 
 -- ---- kinds
 psi-round : (p : PsiPhase) → psiPhaseOf (psiPhaseNumber p) ≡ p

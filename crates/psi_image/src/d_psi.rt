@@ -1,13 +1,13 @@
 // The small part of a run of d_psi in lent arrays.
 ghost use mathlib.Core.Path.{_≡_};
 ghost use Rattle.psi_image.specs.PsiImage.{dPsiOf, DPsiTells};
-use crate::kinds::d_psi_phase_number;
-use crate::kinds::d_psi_phase_of;
-use crate::kinds::note;
-use crate::kinds::question_number;
+use crate::notes::note;
 use factory::alm_factory::DPsiOutcome;
 use factory::alm_factory::DPsiState;
 use factory::alm_factory::Sizes;
+use psi_kinds::d_psi_phase_number;
+use psi_kinds::d_psi_phase_of;
+use psi_kinds::question_number;
 
 // The small part of the run that the lent numbers stand for.
 pub fn d_psi_of(w: &[u32; 2], k: &[usize; 3], f: &[f64; 1]) -> DPsiState

@@ -1,13 +1,13 @@
 // The small part of a run of psi in lent arrays.
 ghost use mathlib.Core.Path.{_≡_};
 ghost use Rattle.psi_image.specs.PsiImage.{psiOf, psiEnd, PsiTells};
-use crate::kinds::note;
-use crate::kinds::psi_phase_number;
-use crate::kinds::psi_phase_of;
-use crate::kinds::question_number;
+use crate::notes::note;
 use factory::alm_factory::PsiOutcome;
 use factory::alm_factory::PsiState;
 use factory::alm_factory::Sizes;
+use psi_kinds::psi_phase_number;
+use psi_kinds::psi_phase_of;
+use psi_kinds::question_number;
 
 // The small part of the run that the lent numbers stand for.
 pub fn psi_of(w: &[u32; 2], k: &[usize; 3], f: &[f64; 3]) -> PsiState

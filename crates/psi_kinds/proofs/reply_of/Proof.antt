@@ -1,11 +1,11 @@
 use native.Mathlib.Omega.{arith}
 use lib.ListN.{List·getD-eq-default}
 use mathlib.Core.Path.{sym}
-use Rattle.psi_image.proofs.Laws.{above}
-use Rattle.psi_image.specs.PsiImage.{replies}
+use Rattle.psi_kinds.proofs.Laws.{above}
+use Rattle.psi_kinds.specs.PsiKinds.{replies}
 use borrow.Author.Needs.{needs}
-use Rattle.psi_image.proofs.kinds.reply_of.Statement.{statement}
-use Rattle.psi_image.proofs.kinds.reply_of.Tie as tie
+use Rattle.psi_kinds.proofs.reply_of.Statement.{statement}
+use Rattle.psi_kinds.proofs.reply_of.Tie as tie
 
 returns : tie.Need-returns
 returns c = rw (c .match .keys1)

@@ -1,6 +1,6 @@
 // The enums of psi and d_psi as numbers. Any number is read.
 ghost use mathlib.Core.Path.{_≡_};
-ghost use Rattle.psi_image.specs.PsiImage.{psiPhaseOf, psiPhaseNumber, dPsiPhaseOf, dPsiPhaseNumber, questionNumber, replyOf, noted};
+ghost use Rattle.psi_kinds.specs.PsiKinds.{psiPhaseOf, psiPhaseNumber, dPsiPhaseOf, dPsiPhaseNumber, questionNumber, replyOf};
 use factory::alm_factory::DPsiPhase;
 use factory::alm_factory::PsiPhase;
 use factory::alm_factory::PsiQuestion;
@@ -87,12 +87,4 @@ pub fn reply_of(kind: u32, x: f64, code: u32) -> Reply
         4 => Reply::Failure(code),
         _ => Reply::No,
     }
-}
-
-// The number that a call tells: a question's, a refusal's, a code.
-pub fn note(number: u32, w: &mut [u32; 2])
-    ensures { λ _. ⌜ now (w .exit) ≡ noted number (now (w .entry)) ⌝ }
-{
-    let phase = w[0];
-    *w = [phase, number];
 }
