@@ -5,21 +5,14 @@ ghost use lib.Ieee.{binary64};
 ghost use Rattle.model.specs.Refusals as R;
 ghost use Rattle.alm_core.specs.Values.{settingsOf};
 ghost use Rattle.alm_core.specs.Board.{setU, setY, setYPlus};
-ghost use Rattle.alm_calls.specs.LoopCalls.{tolerancesRight, factorsRight, limitsRight, firstAlm, Starts, Begins};
-use alm_core::alm_cache::Alm;
+ghost use Rattle.alm_calls.specs.LoopCalls.{tolerancesRight, factorsRight, limitsRight, Starts, Begins};
 use alm_core::alm_cache::AlmAnswered;
-use alm_core::alm_cache::AlmNumbers;
-use alm_core::alm_cache::AlmPhase;
 use alm_core::alm_cache::AlmRun;
 use alm_core::alm_cache::AlmSettings;
 use alm_core::alm_cache::AlmStepped;
-use alm_core::alm_cache::OuterIterations;
 use alm_core::alm_steps::begins;
 use alm_core::alm_steps::stops;
-use panoc_core::panoc_cache::AkktTolerance;
-use panoc_core::panoc_cache::ExitStatus;
-use panoc_core::panoc_cache::InnerIterations;
-use panoc_core::panoc_cache::Settings;
+use alm_first::first;
 use start_tests::factor_right;
 use start_tests::fraction_right;
 use start_tests::limit_right;
@@ -99,44 +92,6 @@ pub fn start_refusal(set: AlmSettings, us: usize, xi: &[f64]) -> u32
         }
     } else {
         1
-    }
-}
-
-// The small part of a run before its first outer iteration, with so many left after it.
-pub fn first(set: AlmSettings, penalty: f64, left: usize) -> Alm
-    ensures { λ r. ⌜ r ≡ firstAlm set penalty left ⌝ }
-{
-    let akkt_tolerance = AkktTolerance::Set(set.initial_inner_tolerance);
-    let inner_set = Settings {
-        n: set.n,
-        max_iter: set.max_inner_iterations,
-        limited: set.limited,
-        tolerance: set.tolerance,
-        akkt_tolerance,
-    };
-    let solve = panoc_starts::begin(inner_set);
-    let numbers = AlmNumbers {
-        penalty,
-        akkt_tolerance: set.initial_inner_tolerance,
-        delta_y_norm: 0.0,
-        f2_norm: 0.0,
-        delta_y_norm_plus: 0.0,
-        f2_norm_plus: 0.0,
-        norm_fpr: 0.0,
-    };
-    let outer = OuterIterations(0);
-    let inner = InnerIterations(0);
-    let found = InnerIterations(0);
-    Alm {
-        phase: AlmPhase::Over,
-        set,
-        numbers,
-        left,
-        outer,
-        inner,
-        found,
-        status: ExitStatus::Converged,
-        solve,
     }
 }
 

@@ -2,8 +2,8 @@ use Rattle.alm_calls.specs.LoopLaws.{first-is}
 use mathlib.Core.Path.{ap}
 use Rattle.panoc_core.specs.declared.panoc_cache.Solve.{Solve}
 use borrow.Author.Needs.{needs}
-use Rattle.alm_starts.proofs.first.Statement.{statement}
-use Rattle.alm_starts.proofs.first.Tie as tie
+use Rattle.alm_first.proofs.first.Statement.{statement}
+use Rattle.alm_first.proofs.first.Tie as tie
 
 begin-requires : tie.Need-begin-requires
 begin-requires c κs = search needs
