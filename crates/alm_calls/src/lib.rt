@@ -1,3 +1,2 @@
-// What the public calls of the loop share: what a run waits for, and what goes into the lent slices.
+// What the public calls of the loop share: their statements, and what goes into the lent slices.
 pub mod lent;
-pub mod wanted;

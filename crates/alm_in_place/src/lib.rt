@@ -4,10 +4,10 @@ use alm_answers::take;
 use alm_calls::lent::hand_out;
 use alm_calls::lent::hand_out_xi;
 use alm_calls::lent::lent_fits;
-use alm_calls::wanted::wants;
 use alm_core::alm_cache::Alm;
 use alm_core::alm_cache::AlmOutcome;
 use alm_core::alm_cache::AlmStepped;
+use alm_wanted::wants;
 use panoc_core::panoc_cache::Reply;
 use panoc_core::refusals::refusal;
 

@@ -5,13 +5,13 @@ ghost use Prim.Native.Nat.{_≤_};
 ghost use Rattle.model.specs.Refusals as R;
 ghost use Rattle.alm_calls.specs.LoopCalls.{runOf, Points};
 ghost use Rattle.alm_vectors.specs.LoopPoints.{firstPlaces, innerSecond, secondPlaces, asked};
-use alm_calls::wanted::is_waiting;
 use alm_core::alm_cache::Alm;
 use alm_core::alm_cache::AlmPhase;
 use alm_core::alm_cache::AlmRun;
 use alm_vectors::carries_xi;
 use alm_vectors::first_point;
 use alm_vectors::second_point;
+use alm_wanted::is_waiting;
 
 // How many places xi has: none where n1 = n2 = 0, else the penalty's and n1.
 pub fn xi_places(n1: usize, n2: usize) -> usize

@@ -9,7 +9,7 @@ use alm_core::alm_cache::AlmQuestion;
 use alm_core::alm_cache::AlmStepped;
 use alm_core::alm_steps::asks;
 use alm_core::alm_steps::conclude;
-use alm_core::alm_steps::next_iteration;
+use alm_iterations::next_iteration;
 use alm_tests::counted;
 use alm_tests::is_exit_criterion_satisfied;
 use alm_tests::update_inner_akkt_tolerance;

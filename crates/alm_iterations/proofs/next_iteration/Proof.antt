@@ -1,9 +1,9 @@
 use Prim.Native.Nat.{_-_}
 use native.Mathlib.Omega.{arith}
 use Rattle.alm_core.specs.Laws.{next-ready, next-none, next-on, next-open, next-late}
 use borrow.Author.Needs.{needs}
-use Rattle.alm_core.proofs.alm_steps.next_iteration.Statement.{statement}
-use Rattle.alm_core.proofs.alm_steps.next_iteration.Tie as tie
+use Rattle.alm_iterations.proofs.next_iteration.Statement.{statement}
+use Rattle.alm_iterations.proofs.next_iteration.Tie as tie
 
 conclude-requires : tie.Need-conclude-requires
 conclude-requires c κs = c .before .pre .0

@@ -1,8 +1,8 @@
 use native.Mathlib.Omega.{arith}
 use Rattle.alm_calls.specs.LoopLaws.{counts-far, counts-many, counts-more, counts-last, counts-is}
 use borrow.Author.Needs.{needs}
-use Rattle.alm_calls.proofs.wanted.is_counted.Statement.{statement}
-use Rattle.alm_calls.proofs.wanted.is_counted.Tie as tie
+use Rattle.alm_wanted.proofs.is_counted.Statement.{statement}
+use Rattle.alm_wanted.proofs.is_counted.Tie as tie
 
 returns : tie.Need-returns
 returns c = counts-far (c .before .args .s) (c .if1 .taken)

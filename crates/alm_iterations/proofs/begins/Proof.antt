@@ -1,7 +1,7 @@
 use Rattle.alm_core.specs.Laws.{time-asks, time-none}
 use borrow.Author.Needs.{needs}
-use Rattle.alm_core.proofs.alm_steps.begins.Statement.{statement}
-use Rattle.alm_core.proofs.alm_steps.begins.Tie as tie
+use Rattle.alm_iterations.proofs.begins.Statement.{statement}
+use Rattle.alm_iterations.proofs.begins.Tie as tie
 
 asks-requires : tie.Need-asks-requires
 asks-requires c κs = search needs

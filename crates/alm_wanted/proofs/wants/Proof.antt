@@ -1,10 +1,10 @@
 use mathlib.Core.Path.{refl}
 use Rattle.alm_calls.specs.LoopLaws.{wants-at, wants-none}
 use Rattle.alm_core.specs.declared.alm_cache.AlmPhase.the-variants as P
 use Rattle.panoc_core.specs.declared.refusals.Wanted.the-variants as W
 use borrow.Author.Needs.{needs}
-use Rattle.alm_calls.proofs.wanted.wants.Statement.{statement}
-use Rattle.alm_calls.proofs.wanted.wants.Tie as tie
+use Rattle.alm_wanted.proofs.wants.Statement.{statement}
+use Rattle.alm_wanted.proofs.wants.Tie as tie
 
 is-sound-requires : tie.Need-is-sound-requires
 is-sound-requires c κs = search needs

@@ -1,6 +1,6 @@
 use Rattle.alm_calls.specs.LoopLaws.{sized-wide, sized-wide1, sized-wide2, sized-is}
-use Rattle.alm_calls.proofs.wanted.is_sized.Statement.{statement}
-use Rattle.alm_calls.proofs.wanted.is_sized.Tie as tie
+use Rattle.alm_wanted.proofs.is_sized.Statement.{statement}
+use Rattle.alm_wanted.proofs.is_sized.Tie as tie
 
 returns : tie.Need-returns
 returns c = sized-wide (c .before .before .args .s) (c .if1 .taken)

@@ -1,8 +1,8 @@
 use mathlib.Core.Path.{ap, _∙_}
 use Rattle.panoc_core.specs.Board.{waiting}
 use borrow.Author.Needs.{needs}
-use Rattle.alm_calls.proofs.wanted.is_waiting.Statement.{statement}
-use Rattle.alm_calls.proofs.wanted.is_waiting.Tie as tie
+use Rattle.alm_wanted.proofs.is_waiting.Statement.{statement}
+use Rattle.alm_wanted.proofs.is_waiting.Tie as tie
 
 wants-requires : tie.Need-wants-requires
 wants-requires c κs = search needs

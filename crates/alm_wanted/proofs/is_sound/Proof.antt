@@ -1,9 +1,9 @@
 use mathlib.Core.Path.{refl}
 use Rattle.alm_calls.specs.LoopLaws.{sound-last, sound-other, sound-not}
 use Rattle.alm_core.specs.declared.alm_cache.AlmPhase.the-variants as P
 use borrow.Author.Needs.{needs}
-use Rattle.alm_calls.proofs.wanted.is_sound.Statement.{statement}
-use Rattle.alm_calls.proofs.wanted.is_sound.Tie as tie
+use Rattle.alm_wanted.proofs.is_sound.Statement.{statement}
+use Rattle.alm_wanted.proofs.is_sound.Tie as tie
 
 is-sized-requires : tie.Need-is-sized-requires
 is-sized-requires c κs = search needs

@@ -1,7 +1,7 @@
 use Rattle.alm_core.specs.Laws.{inner-goes}
 use borrow.Author.Needs.{needs}
-use Rattle.alm_core.proofs.alm_steps.inner_solve.Statement.{statement}
-use Rattle.alm_core.proofs.alm_steps.inner_solve.Tie as tie
+use Rattle.alm_iterations.proofs.inner_solve.Statement.{statement}
+use Rattle.alm_iterations.proofs.inner_solve.Tie as tie
 
 begin-requires : tie.Need-begin-requires
 begin-requires c κs = search needs

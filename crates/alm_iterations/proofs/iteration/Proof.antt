@@ -1,7 +1,7 @@
 use Rattle.alm_core.specs.Laws.{y-asks, y-none}
 use borrow.Author.Needs.{needs}
-use Rattle.alm_core.proofs.alm_steps.iteration.Statement.{statement}
-use Rattle.alm_core.proofs.alm_steps.iteration.Tie as tie
+use Rattle.alm_iterations.proofs.iteration.Statement.{statement}
+use Rattle.alm_iterations.proofs.iteration.Tie as tie
 
 asks-requires : tie.Need-asks-requires
 asks-requires c κs = search needs
