@@ -2,6 +2,7 @@
 ghost use Prim.Native.Nat.{_≤_, _<_};
 ghost use lib.ListN.{length};
 
+mod answers;
 mod turns;
 
 use transcript_lines::refill::flush;

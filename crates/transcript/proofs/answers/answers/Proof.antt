@@ -1,9 +1,9 @@
--- `transcript_answers::answers` meets its contract: what is lent is within its slices. Assumes nothing.
+-- `answers::answers` meets its contract: what is lent is within its slices. Assumes nothing.
 use native.Mathlib.Omega.{arith}
 use Rattle.transcript_lines.proofs.Laws.{firsts}
 use borrow.Author.Needs.{needs}
-use Rattle.transcript_answers.proofs.answers.Statement.{statement}
-use Rattle.transcript_answers.proofs.answers.Tie as tie
+use Rattle.transcript.proofs.answers.answers.Statement.{statement}
+use Rattle.transcript.proofs.answers.answers.Tie as tie
 
 least-requires : tie.Need-least-requires
 least-requires c κs = search needs
