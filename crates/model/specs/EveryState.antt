@@ -5,13 +5,16 @@ use mathlib.Core.List.{List}
 use lib.Dec.{eqb}
 use lib.Ieee.{Float, Format}
 use lib.Ieee.Scale.{finite}
-use Rattle.ieee.specs.Numbers.{null}
+use Rattle.ieee.specs.Numbers.{null, larger}
+use Rattle.ieee.specs.Sums.{norm}
 use Rattle.model.specs.Constants.{one}
-use Rattle.model.specs.Process.{Status, Loop, number, ask}
+use Rattle.model.specs.Vectors.{shifts, shifted, plusOver}
+use Rattle.model.specs.Process.{Status, Loop, number, vector, ask, inner, within, projectC}
 use Rattle.model.specs.Process as Asks
 use Rattle.model.specs.State.{Settings, Iterate, State, withU}
-use Rattle.model.specs.Inner.{Next, keptGradient, halfCost, doubling, search, trial, retry, descent, onward}
-use Rattle.model.specs.Loop.{LoopSettings, LoopState, Found, xiOf, exits, nextPenalty, counted, conclude, concluded, weighed}
+use Rattle.model.specs.Inner.{Next, keptGradient, halfCost, doubling, search, trial, retry, descent, onward, startGradient, startShifted, solve}
+use Rattle.model.specs.Loop.{LoopSettings, LoopState, Found, xiOf, exits, nextPenalty, counted, conclude, concluded, weighed, carriedOf, innerSettings, innerSolve, solved}
+use Rattle.model.specs.Psi.{Sizes, psiF1, psiC, dPsiF1, dPsiC}
 
 -- ---- the inner solve
 
@@ -19,6 +22,13 @@ use Rattle.model.specs.Loop.{LoopSettings, LoopState, Found, xiOf, exits
 pub kept-later : (i : Iterate) → eqb (i .count) 0 ≡ false → keptGradient i ≡ i .gradient
 unfolding keptGradient
 kept-later i e = rw e
+
+-- "The engine leaves u shifted": the solve goes on from there
+pub goes-on-shifted :
+    (f : Format) (s : Settings) (u : List Float) (c : Float) (g : List Float) →
+    startGradient f s u c g ≡ ask (Asks.Question.gradient (shifted f u)) (vector (s .n)) (startShifted f s (norm f (shifts f u)) (shifted f u) c g)
+unfolding startGradient
+goes-on-shifted f s u c g = refl
 
 module _ (f : Format) (s : Settings) (e : Status) (next : Next) (st : State) where
   -- "with fewer than 10 rounds"
@@ -50,3 +60,26 @@ module _ (f : Format) (s : LoopSettings) (r : Found) where
       weighed f s next r ≡ ask (Asks.LoopQuestion.cost (r .plan) (xiOf s null (r .from .y))) number (concluded f s (r .status) (counted f s r (r .from .c) (r .from .y) (r .from .akkt)))
   unfolding weighed conclude counted
   passed-asks next e = rw e
+
+-- each outer iteration has an inner solve of its own, from its u, c, y and tolerance
+pub solves-each :
+    (f : Format) (s : LoopSettings) (next : Status → LoopState → Loop) (st : LoopState) →
+    innerSolve f s next st ≡ within (inner (xiOf s (st .c) (st .y))) (solved f s next (carriedOf st)) (solve f (innerSettings s st) (st .u))
+unfolding innerSolve
+solves-each f s next st = refl
+
+-- ---- psi and d_psi
+
+-- "t = F1 + y / max(c, 1)"
+pub psi-over-larger :
+    (f : Format) (s : Sizes) (u : List Float) (c : Float) (y : List Float) (v : Float) (w : List Float) →
+    psiF1 f s u c y v w ≡ ask (projectC (plusOver f (larger c (one f)) w y)) (vector (s .n1)) (psiC f s u c y v (plusOver f (larger c (one f)) w y))
+unfolding psiF1
+psi-over-larger f s u c y v w = refl
+
+-- "here t = F1 + y / c"
+pub d-psi-over-c :
+    (f : Format) (s : Sizes) (u : List Float) (c : Float) (y : List Float) (g w : List Float) →
+    dPsiF1 f s u c y g w ≡ ask (projectC (plusOver f c w y)) (vector (s .n1)) (dPsiC f s u c y g (plusOver f c w y))
+unfolding dPsiF1
+d-psi-over-c f s u c y g w = refl

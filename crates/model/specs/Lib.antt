@@ -23,7 +23,6 @@ pub mod Refusing
 pub mod Starts
 pub mod Script
 pub mod EveryState
-pub mod Runs
 pub mod Tests
 pub mod Table
 pub mod Bench
