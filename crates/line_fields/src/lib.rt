@@ -6,14 +6,14 @@ ghost use lib.Dec.{eqb};
 ghost use Prim.Native.Nat.{suc};
 ghost use lib.ListN.{length};
 ghost use Rattle.line_fields.specs.Fields.{leftAt, Gives, GivesFloats, wholeField, codeField, flagField, floatField, toleranceField, floatsField};
+use float_words::Real;
+use float_words::read_float;
 use word_numbers::Whole;
 use word_numbers::read_whole;
 use word_numbers::read_whole32;
 use word_values::Flag;
-use word_values::Real;
 use word_values::Tolerance;
 use word_values::read_flag;
-use word_values::read_float;
 use word_values::read_tolerance;
 use words::word;
 

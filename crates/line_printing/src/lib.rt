@@ -3,7 +3,7 @@ ghost use mathlib.Core.Path.{_≡_};
 ghost use Prim.Native.Nat.{_+_, _*_, _≤_};
 ghost use lib.ListN.{length};
 ghost use Rattle.word_printing.specs.Printing.{floatsText, countedText, pointText, written};
-use word_printing::put_float;
+use float_printing::put_float;
 use word_printing::put_whole;
 use word_printing::put_word;
 

@@ -1,31 +1,17 @@
-// What is printed, into a lent buffer at a place: a word, a float, a whole number. Each call gives the place behind what it put.
+// What is printed, into a lent buffer at a place: a word, a whole number. Each call gives the place behind what it put.
 ghost use mathlib.Core.Path.{_≡_};
 ghost use Prim.Native.Nat.{_+_, _≤_, _<_};
 ghost use lib.ListN.{length};
-ghost use lib.Ieee.{binary64, toBits};
 ghost use Rattle.word_numbers.specs.Digits.{placesIn};
 ghost use Rattle.word_numbers.specs.Digits.{glyph as Digits·glyph};
-ghost use Rattle.word_printing.specs.Printing.{floatWord, wholeWord, written};
-
-// The pattern that is printed for every NaN.
-const QUIET: u64 = 9221120237041090560;
+ghost use Rattle.word_printing.specs.Printing.{wholeWord, written};
 
 // The byte of a digit.
-fn glyph(d: u64) -> u8
+pub fn glyph(d: u64) -> u8
     requires { ⌜ d < 16 ⌝ }
     ensures { λ r. ⌜ r ≡ Digits·glyph d ⌝ }
 {
     if d < 10 { 48 + d as u8 } else { 87 + d as u8 }
-}
-
-// The bits of a float.
-pub fn to_bits(x: f64) -> u64
-    ensures { λ r. ⌜ r ≡ toBits binary64 x ⌝ }
-{
-    if x != x {
-        return QUIET;
-    }
-    f64::to_bits(x)
 }
 
 // A word as it is.
@@ -39,21 +25,6 @@ pub fn put_word(word: &[u8], out: &mut [u8], at: usize) -> usize
         i += 1;
     }
     at + i
-}
-
-// A float as 16 hexadecimal digits.
-pub fn put_float(x: f64, out: &mut [u8], at: usize) -> usize
-    requires { ⌜ at + 16 ≤ length (now out) ⌝ }
-    ensures { λ r. ⌜ (r ≡ at + 16) × (now (out .exit) ≡ written (now (out .entry)) at (floatWord x)) ⌝ }
-{
-    let mut rest = to_bits(x);
-    let mut i = 16usize;
-    while i > 0 {
-        i -= 1;
-        out[at + i] = glyph(rest % 16);
-        rest = rest / 16;
-    }
-    at + 16
 }
 
 // How many decimal digits a number has.

@@ -1,14 +1,9 @@
--- What the enums of floats, flags and tolerances stand for. Definitions only.
+-- What the enums of flags and tolerances stand for. Definitions only.
 use mathlib.Core.Bool.{Bool, true, false}
 use mathlib.Core.Option.{Option, none, some}
 use lib.Ieee.{Float}
-use Rattle.word_values.specs.declared.Real.{Real}
 use Rattle.word_values.specs.declared.Flag.{Flag}
 use Rattle.word_values.specs.declared.Tolerance.{Tolerance}
-
-abbrev pub realIs : Option Float → Real
-realIs none = Real.Other
-realIs (some x) = Real.Value x
 
 abbrev pub flagIs : Option Bool → Flag
 flagIs none = Flag.Other

@@ -3,7 +3,7 @@ use mathlib.Core.Path.{sym, _∙_}
 use native.Mathlib.Omega.{arith}
 use lib.Ieee.{binary64, ofBits}
 use Rattle.word_numbers.specs.Reading.{floatOf}
-use Rattle.word_values.specs.Answers.{real-some, real-none}
+use Rattle.float_words.specs.Answers.{real-some, real-none}
 use Rattle.line_fields.specs.FieldLaws.{gives-past, gives-found, gives-other}
 use borrow.Author.Needs.{needs}
 use Rattle.line_fields.proofs.float_at.Statement.{statement}

@@ -4,7 +4,7 @@ use mathlib.Core.Path.{_≡_, refl, sym, _∙_}
 use native.Mathlib.Omega.{arith}
 use borrow.Author.Needs.{needs}
 use lib.ListN.{length, length-set}
-use Rattle.word_values.specs.Answers.{real-some, real-none}
+use Rattle.float_words.specs.Answers.{real-some, real-none}
 use Rattle.line_fields.specs.Fields.{leftAt, floatsField}
 use Rattle.line_fields.specs.FloatLaws.{SoFar, so-far-none, so-far-turn, so-far-past, so-far-other, so-far-full}
 use Rattle.line_fields.proofs.floats_at.Statement.{statement}

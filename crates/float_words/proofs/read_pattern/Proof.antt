@@ -1,4 +1,4 @@
--- `word_values::read_pattern` meets its contract: what is left of the word, behind the digits read, reads as the whole word does. Assumes nothing.
+-- `float_words::read_pattern` meets its contract: what is left of the word, behind the digits read, reads as the whole word does. Assumes nothing.
 use mathlib.Core.Path.{_≡_, refl, sym, ap}
 use Rattle.word_numbers.specs.Numerals.{numeral-next, hex-short, hex-stop, hex-value, hex-grows, hex-room}
 use Rattle.word_numbers.specs.Values.{wholeIs}
@@ -12,8 +12,8 @@ use lib.Dec.{lit<}
 use Rattle.word_numbers.specs.Digits.{digit, numeral}
 use Rattle.word_numbers.specs.Reading.{hexOf}
 use Rattle.word_numbers.specs.Numerals.{numeral-turn, numeral-stop, numeral-end, hex-grows, hex-room}
-use Rattle.word_values.proofs.read_pattern.Statement.{statement}
-use Rattle.word_values.proofs.read_pattern.Tie as tie
+use Rattle.float_words.proofs.read_pattern.Statement.{statement}
+use Rattle.float_words.proofs.read_pattern.Tie as tie
 
 abbrev Inv-loop : tie.InvT-loop
 Inv-loop word b₀ i₀ b i = (i ≤ 16) × (length word ≡ 16) × (b < 2 ^ (4 * i)) × (numeral 16 b (drop i word) ≡ numeral 16 0 word)

@@ -1,14 +1,14 @@
--- `word_printing::put_float` meets its contract: after each turn one digit more stands, from the last on. Assumes nothing.
+-- `float_printing::put_float` meets its contract: after each turn one digit more stands, from the last on. Assumes nothing.
 use Prim.Native.Nat.{_≤_, _<_, _+_, _-_}
 use mathlib.Core.Path.{_≡_, refl, sym, ap, _∙_}
 use native.Mathlib.Omega.{arith}
 use borrow.Author.Needs.{needs}
 use lib.ListN.{length}
 use Rattle.word_numbers.specs.Digits.{digits}
 use Rattle.word_printing.specs.Printing.{floatWord, written}
 use Rattle.word_printing.specs.Written.{Spelt, spelt-none, spelt-turn, spelt-all, spelt-length}
-use Rattle.word_printing.proofs.put_float.Statement.{statement}
-use Rattle.word_printing.proofs.put_float.Tie as tie
+use Rattle.float_printing.proofs.put_float.Statement.{statement}
+use Rattle.float_printing.proofs.put_float.Tie as tie
 
 abbrev Inv-loop : tie.InvT-loop
 Inv-loop x out₀ at rest₀ i₀ out rest i = (i ≤ 16) × Spelt 16 16 (floatWord x) out₀ at out rest i

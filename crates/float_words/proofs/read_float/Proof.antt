@@ -1,8 +1,8 @@
--- `word_values::read_float` meets its contract: by what the word's pattern is. Assumes nothing.
-use Rattle.word_values.specs.Answers.{float-value, float-other}
+-- `float_words::read_float` meets its contract: by what the word's pattern is. Assumes nothing.
+use Rattle.float_words.specs.Answers.{float-value, float-other}
 use borrow.Author.Needs.{needs}
-use Rattle.word_values.proofs.read_float.Statement.{statement}
-use Rattle.word_values.proofs.read_float.Tie as tie
+use Rattle.float_words.proofs.read_float.Statement.{statement}
+use Rattle.float_words.proofs.read_float.Tie as tie
 
 read-pattern-requires : tie.Need-read-pattern-requires
 read-pattern-requires c κs = search needs

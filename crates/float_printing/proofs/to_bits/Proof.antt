@@ -1,11 +1,11 @@
--- `word_printing::to_bits` meets its contract: only nan differs from itself. Assumes nothing.
+-- `float_printing::to_bits` meets its contract: only nan differs from itself. Assumes nothing.
 use mathlib.Core.Path.{refl, sym, ap, _∙_}
 use lib.Ieee.{binary64, toBits}
 use Rattle.ieee.specs.Special.{no-nan}
 use Rattle.word_numbers.specs.Floats.{nan-bits}
 use borrow.Author.Needs.{needs}
-use Rattle.word_printing.proofs.to_bits.Statement.{statement}
-use Rattle.word_printing.proofs.to_bits.Tie as tie
+use Rattle.float_printing.proofs.to_bits.Statement.{statement}
+use Rattle.float_printing.proofs.to_bits.Tie as tie
 
 returns : tie.Need-returns
 returns c = nan-bits _ (c .if1 .taken)

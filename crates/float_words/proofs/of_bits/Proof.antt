@@ -1,12 +1,12 @@
--- `word_values::of_bits` meets its contract: a pattern above infinity's is nan's. Assumes nothing.
+-- `float_words::of_bits` meets its contract: a pattern above infinity's is nan's. Assumes nothing.
 use Rattle.word_numbers.specs.Floats.{bits-nan, zero-over-zero}
 use mathlib.Core.Path.{_∙_}
 use lib.Ieee.{binary64}
 use Rattle.ieee.specs.Patterns.{no-nan-within}
 use Rattle.word_numbers.specs.Floats.{bits-nan}
 use borrow.Author.Needs.{needs}
-use Rattle.word_values.proofs.of_bits.Statement.{statement}
-use Rattle.word_values.proofs.of_bits.Tie as tie
+use Rattle.float_words.proofs.of_bits.Statement.{statement}
+use Rattle.float_words.proofs.of_bits.Tie as tie
 
 returns : tie.Need-returns
 returns c = zero-over-zero ∙ bits-nan (c .before .args .b) (c .if1 .taken)
