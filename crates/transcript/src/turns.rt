@@ -2,8 +2,8 @@
 ghost use Prim.Native.Nat.{_+_, _≤_, _<_};
 ghost use lib.ListN.{length};
 ghost use Rattle.transcript_lines.specs.Within.{Within};
-use line_starts::command::Command;
 use crate::answers::answers;
+use line_starts::command::Command;
 use transcript_lines::lines::next;
 use transcript_lines::reading::read;
 use transcript_lines::reading::reply;
