@@ -23,7 +23,7 @@ def first_of(chunk):
 
 def name_of(line):
     m = re.match(r"(?:(?:abbrev|unfoldable|pub|record|data) +)*(%s)" % NAME, line)
-    return m[1]
+    return m[1] if m else ""
 
 
 def chunks(text):
@@ -97,6 +97,14 @@ def tokens(chunk):
     return set(re.findall(NAME, QUIET.sub(" ", "\n".join(chunk))))
 
 
+def named(chunk):
+    """The names that an item cites: neither its fields, nor what stands behind a dot or is bound before a colon."""
+    text = re.sub(r"(?m)^  (pub )?%s :" % NAME, "", QUIET.sub(" ", "\n".join(chunk[chunk.index(first_of(chunk)) :])))
+    bound = {n for m in re.findall(r"[({]([^(){}:]+) :", text) for n in m.split()}
+    bound |= {n for left in re.findall(r"(?m)^([^:\n=]+) = ", text) for n in re.findall(NAME, left)[1:]}
+    return set(re.findall(r"(?<![^\s(){};,@])" + NAME, text)) - bound
+
+
 def used(item, words):
     bare = item.split(" as ")[-1].strip()
     return all(p in words for p in bare.split("◌") if p)
@@ -149,11 +157,12 @@ def split(root, crate):
         stay = {n for m, parts in modules.items() for at, c in enumerate(parts) if (m, at) not in moves for n in declared(c)}
         more = {}
         for module, parts in modules.items():
-            brought = {n for c in parts if kind_of(first_of(c)) == "use" for n in tokens(c)}
+            lines = "\n".join(x for c in parts if kind_of(first_of(c)) == "use" for x in c).split("\n")
+            brought = {n for x in lines if f"Rattle.{crate}." in x for n in tokens([x])}
             for at, chunk in enumerate(parts):
                 if (module, at) not in moves and kind_of(first_of(chunk)) in ("definition", "module"):
                     here = {n for (m, _), c in moves.items() if m == module for n in declared(c)}
-                    if tokens(chunk[chunk.index(first_of(chunk)) :]) & ((gone - stay) & (here | brought)):
+                    if named(chunk) & ((gone - stay) & (here | brought)):
                         more[module, at] = chunk
         if not more:
             break

@@ -10,11 +10,11 @@ use Rattle.std.proofs.Math.Dec.{eqb}
 use Rattle.std.specs.Float.Ieee.{Float, binary64, add, mul, le, of_bits, is_nan, eq, ne, up, down}
 use Rattle.std.specs.Float.{nan, inf, fin}
 use Rattle.ieee.specs.Numbers.{null, larger}
-use Rattle.ieee.specs.Special.{zero_bits}
+use Rattle.ieee.proofs.Special.{zero_bits}
 use Rattle.ieee.specs.Sums.{norm}
 use Rattle.matrix_operations.specs.Firsts.{firsts}
 use Rattle.model.specs.Constants.{epsilon}
-use Rattle.model.specs.Literals.{epsilon_bits}
+use Rattle.model.proofs.Literals.{epsilon_bits}
 use Rattle.model.specs.Vectors.{minus, plus_times, plus_over}
 use Rattle.model.specs.Process.{Kind, Answer, End, handed, refused, failed, Process, ask, score, begin, stop, within}
 use Rattle.model.specs.Process as M

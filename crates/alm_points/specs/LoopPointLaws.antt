@@ -7,7 +7,7 @@ use Rattle.std.proofs.Math.Option.{Option, none, some}
 use Rattle.std.proofs.Math.Dec.{eqb}
 use Rattle.std.specs.Float.{binary64}
 use Rattle.ieee.specs.Numbers.{null}
-use Rattle.ieee.specs.Special.{zero_bits}
+use Rattle.ieee.proofs.Special.{zero_bits}
 use Rattle.matrix_operations.specs.Firsts.{firsts}
 use Rattle.matrix_operations.specs.Laws.{length_firsts}
 use Rattle.model.specs.Process.{ask, score, begin, stop, within}
@@ -34,7 +34,7 @@ use Rattle.alm_core.specs.declared.alm_cache.Alm.{Alm}
 use Rattle.alm_core.specs.declared.alm_cache.AlmPhase.{AlmPhase}
 use Rattle.alm_core.specs.declared.alm_cache.AlmPhase.TheVariants as P
 use Rattle.alm_calls.specs.LoopCalls.{wanted_of, run_of, xi_given, asking, points_refusal, Points}
-use Rattle.alm_calls.specs.LoopLaws.{wanted_is, wanted_sound, wanted_phase, xi_at}
+use Rattle.alm_calls.proofs.LoopLaws.{wanted_is, wanted_sound, wanted_phase, xi_at}
 use Rattle.alm_vectors.specs.LoopPoints.{carries_xi, first_places, inner_second, second_places, first_at, second_at_phase}
 
 -- ---- the length of xi

@@ -12,7 +12,7 @@ use Rattle.alm_core.specs.declared.alm_cache.Alm.{Alm}
 use Rattle.alm_core.specs.declared.alm_cache.AlmPhase.{AlmPhase}
 use Rattle.alm_core.specs.declared.alm_cache.AlmPhase.TheVariants as P
 use Rattle.alm_calls.specs.LoopCalls.{xi_given}
-use Rattle.alm_calls.specs.LoopLaws.{sound_sized, sound_ready}
+use Rattle.alm_calls.proofs.LoopLaws.{sound_sized, sound_ready}
 use Rattle.alm_vectors.specs.LoopPoints.{carries_xi, first_places, inner_second, first_at, inner_second_at, second_at_phase}
 
 -- ---- the points have room

@@ -1,15 +1,15 @@
 -- What a kind of run has to keep so that every list of its calls follows the process: its contract, in shared terms. Definitions, and small laws. Assumes nothing.
-use Prim.Native.Nat.{ℕ, zero, suc}
-use Rattle.std.proofs.Math.Path.{◌≡◌, refl, ap}
-use Rattle.std.proofs.Common.{sym, ◌∙◌, true≢false, arith}
+use Prim.Native.Nat.{ℕ, suc}
+use Rattle.std.proofs.Math.Path.{◌≡◌}
 use Rattle.std.specs.Prelude.{true}
 use Rattle.std.proofs.Math.Bool.{false}
 use Rattle.std.proofs.Math.Option.{some}
 use Rattle.model.specs.Process.{Process, handed, refused, failed, ask, score, begin, stop}
-use Rattle.model.specs.Refusals.{remains, or_refused}
+use Rattle.model.specs.Refusals.{remains}
 use Rattle.model.specs.Carry.{end_of}
 use Rattle.claims.specs.History.{Runs, Call, Meets}
 use Rattle.claims.specs.Trace.{refusal, leads_to}
+
 
 -- the number by which a process refuses where a call has come to it, 0 where it does not
 unfoldable pub refused_by : {Q H : Type 0} → Process Q H → ℕ
@@ -32,11 +32,6 @@ pub data Gives {Q H : Type 0} (k : Runs Q H) (s : k.Settings) (q : Process Q H) 
   nothing : k.hands (k.said q) ≡ false → ((was : k.Lent) → k.written s q was ≡ was) → Gives k s q
   back : (h : H) → end_of q ≡ some (handed h) → k.said q ≡ k.said (stop (handed h)) → ((was : k.Lent) → k.written s q was ≡ k.written s (stop (handed h)) was) → Gives k s q
 
--- so does one that has come to the same past other marks
-pub gives_as : {Q H : Type 0} (k : Runs Q H) (s : k.Settings) {q q' : Process Q H} → end_of q' ≡ end_of q → k.said q' ≡ k.said q → ((was : k.Lent) → k.written s q' was ≡ k.written s q was) → Gives k s q → Gives k s q'
-gives_as k s e f w (nothing a b) = nothing (ap k.hands f ∙ a) (λ was. w was ∙ b was)
-gives_as k s e f w (back h a b c) = back h (e ∙ a) (f ∙ b) (λ was. w was ∙ c was)
-
 -- the contract, in these terms, and what outcomes and lent places are
 pub record Lawful {Q H : Type 0} (k : Runs Q H) : Type 0 where
   pub refuses : (r : k.Run) (c : Call k) → Meets k r c → (m : ℕ) → refusal k (k.settings r) (k.rest r) c ≡ suc m
@@ -45,26 +40,3 @@ pub record Lawful {Q H : Type 0} (k : Runs Q H) : Type 0 where
   pub numbered : (q : Process Q H) → k.number (k.said q) ≡ refused_by q
   pub gives : (s : k.Settings) (q : Process Q H) → Gives k s q
   pub hands : (h : H) → k.hands (k.said (stop (handed h))) ≡ true
-
-module _ {Q H : Type 0} (k : Runs Q H) (law : Lawful k) (s : k.Settings) where
-  -- where nothing is handed back the lent places stay
-  pub gives_kept : (q : Process Q H) → k.hands (k.said q) ≡ false → (was : k.Lent) → k.written s q was ≡ was
-  gives_kept q e was = by (law.gives s q)
-    where
-      by : Gives k s q → k.written s q was ≡ was
-      by (nothing a b) = b was
-      by (back h a b c) = absurd (true≢false (sym (law.hands h) ∙ ap k.hands (sym b) ∙ e))
-
-  pub refused_hands : (m : ℕ) → k.hands (k.said (stop (refused m))) ≡ false
-  unfolding end_of
-  refused_hands m = by (law.gives s (stop (refused m)))
-    where
-      by : Gives k s (stop (refused m)) → k.hands (k.said (stop (refused m))) ≡ false
-      by (nothing a b) = a
-      by (back h a b c) = let z : ◌≡◌ {A = ℕ} 0 1 = cc in absurd (omega arith)
-
-  -- a start that refuses by no number begins the process
-  pub begins : (m : ℕ) (p : Process Q H) (o : k.Outcome) → o ≡ k.said (or_refused m p) → k.number o ≡ 0 → or_refused m p ≡ p
-  unfolding or_refused refused_by
-  begins zero p o e z = refl
-  begins (suc m) p o e z = absurd (omega (arith, ap k.number e, law.numbered (stop (refused (suc m))), z))

@@ -7,7 +7,4 @@ pub mod Psi
 pub mod Lawful
 pub mod Left
 pub mod Follow
-pub mod Chosen
-pub mod InnerProof
 pub mod LoopProof
-pub mod PsiProof

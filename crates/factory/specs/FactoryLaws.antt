@@ -4,7 +4,7 @@ use Rattle.std.proofs.Common.{sym, ap, ◌∙◌, arith, lt-ltb, le-ltb, le-leb,
 use Rattle.std.proofs.Math.Path.{subst}
 use Rattle.std.proofs.Math.Option.{Option, none, some}
 use Rattle.std.proofs.lemmas.Bool.{lt-leb}
-use Rattle.ieee.specs.Special.{zero_bits}
+use Rattle.ieee.proofs.Special.{zero_bits}
 use Rattle.matrix_operations.specs.Firsts.{firsts}
 use Rattle.matrix_operations.specs.Laws.{length_firsts}
 use Rattle.model.specs.Process.{Kind, Answer, refused, failed, Process, ask, score, begin, stop, PsiQuestion}

@@ -18,7 +18,7 @@ use Rattle.alm_core.specs.declared.alm_cache.AlmOutcome.TheVariants.{Refused}
 use Rattle.alm_core.specs.declared.alm_cache.AlmRun.{AlmRun}
 use Rattle.alm_core.specs.Rest.{LoopBoard}
 use Rattle.alm_calls.specs.LoopCalls.{Answers, run_of, gave, rest_of, wanted_of}
-use Rattle.alm_calls.specs.LoopLaws.{wanted_is}
+use Rattle.alm_calls.proofs.LoopLaws.{wanted_is}
 use Rattle.image.specs.Image.{reply_of, strange, noted}
 use Rattle.image.specs.Rounds.{strange_round}
 use Rattle.alm_image.specs.AlmImage.{alm_of, step_of}

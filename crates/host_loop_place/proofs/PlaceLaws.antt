@@ -23,7 +23,7 @@ use Rattle.alm_core.specs.declared.alm_cache.AlmPhase.TheVariants as P
 use Rattle.alm_core.specs.Rest.{LoopBoard}
 use Rattle.alm_core.specs.Values.{first_point}
 use Rattle.alm_calls.specs.LoopCalls.{wanted_of, run_of, rest_of, asking}
-use Rattle.alm_calls.specs.LoopLaws.{wanted_is, wanted_phase}
+use Rattle.alm_calls.proofs.LoopLaws.{wanted_is, wanted_phase}
 use Rattle.alm_vectors.specs.LoopPoints.{first_places, first_at}
 use Rattle.alm_points.specs.LoopPointLaws.{LoopFacts, waits_facts}
 use Rattle.host_points.specs.Places as Inner

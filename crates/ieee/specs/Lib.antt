@@ -2,12 +2,9 @@ pub mod Root
 pub mod Numbers
 pub mod Squares
 pub mod Bracket
-pub mod Neighbours
 pub mod Closest
 pub mod Patterns
 pub mod Special
-pub mod Finite
 pub mod Order
-pub mod Larger
 pub mod Sums
 pub mod Rows

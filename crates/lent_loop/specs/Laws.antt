@@ -24,7 +24,7 @@ use Rattle.alm_core.specs.Rest.{LoopBoard, sized, counts}
 use Rattle.alm_core.specs.Board.{Takes, Ready, Carries, EndsWithin, at_phase, stepped, given, four}
 use Rattle.alm_core.specs.Laws.{carries_asked}
 use Rattle.alm_calls.specs.LoopCalls.{Answers, run_of, gave, wanted_of, lent_right, xi_handed}
-use Rattle.alm_calls.specs.LoopLaws.{inner_refusal_lem, inner_ready, inner_n, inner_ends, inner_takes, answer_fits, answer_plan, answer_xi, answer_goes, answer_refused, refusal_wanted}
+use Rattle.alm_calls.proofs.LoopLaws.{inner_refusal_lem, inner_ready, inner_n, inner_ends, inner_takes, answer_fits, answer_plan, answer_xi, answer_goes, answer_refused, refusal_wanted}
 use Rattle.image.specs.Image as I
 use Rattle.image.specs.Image.{solve_of, noted}
 use Rattle.alm_image.specs.AlmImage.{phase_of, question_of, settings_of, alm_of, step_of}

@@ -8,7 +8,7 @@ use Rattle.std.specs.Float.{nan, Format}
 use Rattle.std.specs.Float.Ieee.{add, sub, mul, div, lt, of_bits}
 use Rattle.std.specs.Float.Ieee.Scale.{finite}
 use Rattle.ieee.specs.Numbers.{null}
-use Rattle.ieee.specs.Special.{zero_bits}
+use Rattle.ieee.proofs.Special.{zero_bits}
 use Rattle.ieee.specs.Root.{root}
 use Rattle.ieee.specs.Sums.{squares_from, squares, norm}
 use Rattle.model.specs.Constants.{epsilon_lipschitz, delta_lipschitz}

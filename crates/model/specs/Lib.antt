@@ -1,5 +1,4 @@
 pub mod Constants
-pub mod Literals
 pub mod Vectors
 pub mod Process
 pub mod State
@@ -8,7 +7,6 @@ pub mod Loop
 pub mod Psi
 pub mod Refusals
 pub mod Play
-pub mod Facts
 pub mod Bounds
 pub mod Least
 pub mod Paths
@@ -17,12 +15,9 @@ pub mod Counts
 pub mod Plans
 pub mod EverySolve
 pub mod EveryLoop
-pub mod EveryPsi
 pub mod Carry
 pub mod Refusing
-pub mod Starts
 pub mod Script
-pub mod EveryState
 pub mod Tests
 pub mod Table
 pub mod Bench

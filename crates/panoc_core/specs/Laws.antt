@@ -15,7 +15,7 @@ use Rattle.ieee.specs.Sums.{norm, squares}
 use Rattle.matrix_operations.specs.Firsts.{firsts}
 use Rattle.matrix_operations.specs.Laws.{firsts_replicate, length_firsts}
 use Rattle.model.specs.Constants.{one, two, max_lipschitz_constant}
-use Rattle.model.specs.Literals.{gamma_l_coeff_bits, min_l_estimate_bits, lipschitz_update_epsilon_bits, max_lipschitz_constant_bits, half_bits, one_bits, two_bits, four_bits}
+use Rattle.model.proofs.Literals.{gamma_l_coeff_bits, min_l_estimate_bits, lipschitz_update_epsilon_bits, max_lipschitz_constant_bits, half_bits, one_bits, two_bits, four_bits}
 use Rattle.model.specs.Vectors.{all_finite, minus, less_times, plus_times, dot, shifts, shifted, estimate}
 use Rattle.model.specs.Process.{Kind, Answer, End, handed, refused, failed, Process, ask, score, begin, stop, Handed}
 use Rattle.model.specs.Process as M

@@ -7,7 +7,7 @@ use Rattle.std.specs.Float.{binary64}
 use Rattle.std.specs.Float.Ieee.{lt, of_bits}
 use Rattle.std.specs.Float.Ieee.Scale.{finite}
 use Rattle.ieee.specs.Numbers.{null}
-use Rattle.ieee.specs.Special.{zero_bits}
+use Rattle.ieee.proofs.Special.{zero_bits}
 use Rattle.matrix_operations.specs.Firsts.{firsts}
 use Rattle.matrix_operations.specs.Laws.{length_firsts}
 use Rattle.model.specs.Process.{Kind, End, refused, failed, Process, ask, score, begin, stop}

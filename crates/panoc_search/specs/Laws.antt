@@ -8,7 +8,7 @@ use Rattle.ieee.specs.Sums.{squares}
 use Rattle.matrix_operations.specs.Firsts.{firsts}
 use Rattle.model.specs.Constants.{one}
 use Rattle.model.specs.Inner as I
-use Rattle.model.specs.Literals.{one_bits}
+use Rattle.model.proofs.Literals.{one_bits}
 use Rattle.model.specs.Vectors.{all_finite, minus, less_times}
 use Rattle.panoc_core.specs.Board.{Board, Envelope, iterate_at}
 use Rattle.panoc_core.specs.Laws.{taken}

@@ -3,7 +3,7 @@ use mathlib.Core.Path.{◌≡◌, ap, ◌∙◌}
 use lib.Ieee.{Float, binary64, of_bits, add, mul, div}
 use Rattle.ieee.specs.Numbers.{larger}
 use Rattle.model.specs.Constants.{one, two}
-use Rattle.model.specs.Literals.{one_bits, two_bits}
+use Rattle.model.proofs.Literals.{one_bits, two_bits}
 
 -- the divisor, at the code's 1
 pub divisor_is : (c m : Float) → m ≡ larger c (of_bits binary64 4607182418800017408) → m ≡ larger c (one binary64)

@@ -5,7 +5,8 @@ use native.Mathlib.Nat.{lt_of_lt_of_le, mul_comm, mul_left_comm, mul-mul-mul_com
 use native.Mathlib.Omega.{arith}
 use lib.Arith.{digits_div}
 use lib.Pow.{pow-add, pow_mono}
-use Rattle.ieee.specs.Squares.{IsRoot, sq_one}
+use Rattle.ieee.specs.Squares.{IsRoot}
+use Rattle.ieee.proofs.Squares.{sq_one}
 
 abbrev pub Taken : ℕ → ℕ → ℕ → ℕ → ℕ → Type 0
 Taken m q rem rest i = (q < 2 ^ i) × (rem ≤ 2 * q) × (rest < 2 ^ 54) × ((q * q + rem) * 2 ^ 54 + rest ≡ m * (2 ^ i * 2 ^ i))

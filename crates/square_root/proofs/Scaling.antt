@@ -8,8 +8,10 @@ use lib.Dec.{T, lit≤}
 use lib.Pow.{pow-add, pow_pos, pow_mono, shl_lt}
 use lib.Ieee.{Format, binary32, binary64, prec, emax, low, hid, ones, of_bits, nan_bits}
 use Rattle.ieee.specs.Root.{root}
-use Rattle.ieee.specs.Squares.{IsRoot, IsNear, sq_one, sq_double, sq_lt_back, four_more, near_root, root_near, root_of_digits}
-use Rattle.ieee.specs.Patterns.{mag, mag_small, mag_normal, mag_pos, Sized, root_bits, of_bits_units, no_nan_below}
+use Rattle.ieee.specs.Squares.{IsRoot, IsNear}
+use Rattle.ieee.proofs.Squares.{sq_one, sq_double, sq_lt_back, four_more, near_root, root_near, root_of_digits}
+use Rattle.ieee.specs.Patterns.{mag, Sized}
+use Rattle.ieee.proofs.Patterns.{mag_small, mag_normal, mag_pos, root_bits, of_bits_units, no_nan_below}
 
 pows : (m t j x l : ℕ) → t + (j + j) ≡ x + l → m * 2 ^ t * (2 ^ j * 2 ^ j) ≡ m * 2 ^ x * 2 ^ l
 pows m t j x l e =

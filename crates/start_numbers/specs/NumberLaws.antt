@@ -5,9 +5,9 @@ use Rattle.std.specs.Float.{binary64}
 use Rattle.std.specs.Float.Ieee.{lt, le, of_bits}
 use Rattle.std.specs.Float.Ieee.Scale.{finite}
 use Rattle.ieee.specs.Numbers.{null}
-use Rattle.ieee.specs.Special.{zero_bits}
+use Rattle.ieee.proofs.Special.{zero_bits}
 use Rattle.model.specs.Constants.{one}
-use Rattle.model.specs.Literals.{one_bits}
+use Rattle.model.proofs.Literals.{one_bits}
 use Rattle.model.specs.Refusals as R
 use Rattle.model.specs.Refusals.{limit_right, tolerance_right}
 

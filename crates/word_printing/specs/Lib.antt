@@ -1,4 +1,3 @@
 pub mod Printing
 pub mod Places
 pub mod Written
-pub mod RoundTrip

@@ -1,7 +1,7 @@
 -- Laws for a loop that counts decimal digits. Assumes nothing.
-use Rattle.std.specs.Prelude.{◌≡◌, refl, ℕ, zero, suc, ◌+◌, ◌-◌, ◌*◌, ◌/◌, ◌^◌, ◌≤◌, ◌<◌}
-use Rattle.std.proofs.Common.{sym, ap, ◌∙◌, subst, lt_of_lt_of_le, div-lt_iff_lt-mul, pow-suc, arith, lit<, lit≤, lt-ltb, le-ltb}
+use Rattle.std.specs.Prelude.{◌≡◌, ℕ, suc, ◌+◌, ◌^◌, ◌<◌}
 use Rattle.word_numbers.specs.Digits.{places_in}
+
 
 -- k digits of n are counted, with those of rest still to come
 pub record Counted (n k rest : ℕ) : Type 0 where
@@ -9,22 +9,3 @@ pub record Counted (n k rest : ℕ) : Type 0 where
   pub turns : k + left ≡ 20
   pub small : rest < 10 ^ suc left
   pub same : places_in 19 n + 1 ≡ k + places_in left rest
-
-pub counted_none : (n : ℕ) → n < 2 ^ 64 → Counted n 1 n
-counted_none n h = record { left = 19; turns = refl; small = lt_of_lt_of_le h (lit≤ tt); same = omega arith }
-
-pub counted_turn : (n k rest : ℕ) → 10 ≤ rest → Counted n k rest → Counted n (k + 1) (rest / 10)
-unfolding places_in
-counted_turn n k rest h c = go c.left c.turns c.small c.same
-  where
-    go : (f : ℕ) → k + f ≡ 20 → rest < 10 ^ suc f → places_in 19 n + 1 ≡ k + places_in f rest → Counted n (k + 1) (rest / 10)
-    go zero t s e = absurd (omega arith)
-    go (suc f) t s e = record { left = f; turns = omega arith; small = (div-lt_iff_lt-mul (lit< tt)).1 (subst (λ (m : ℕ). rest < m) (pow-suc 10 (suc f)) s); same = e ∙ (rw (le-ltb rest 10 h) (omega arith)) }
-
-pub counted_all : (n k rest : ℕ) → rest < 10 → Counted n k rest → k ≡ places_in 19 n
-unfolding places_in
-counted_all n k rest h c = go c.left c.same
-  where
-    go : (f : ℕ) → places_in 19 n + 1 ≡ k + places_in f rest → k ≡ places_in 19 n
-    go zero e = omega arith
-    go (suc f) e = let t : places_in 19 n + 1 ≡ k + 1 = e ∙ rw (lt-ltb rest 10 h) in omega arith

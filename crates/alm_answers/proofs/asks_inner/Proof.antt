@@ -2,7 +2,7 @@ use mathlib.Core.Path.{refl, ap}
 use mathlib.Core.Bool.{Bool, cond}
 use Prim.Native.Nat.{ℕ}
 use native.Mathlib.Omega.{arith}
-use Rattle.alm_calls.specs.LoopLaws.{not_inner}
+use Rattle.alm_calls.proofs.LoopLaws.{not_inner}
 use Rattle.alm_core.specs.declared.alm_cache.AlmPhase.TheVariants as P
 use borrow.Author.Rules.{rules}
 use Rattle.alm_answers.proofs.asks_inner.Statement.{statement}

@@ -1,5 +1,5 @@
 use mathlib.Core.Path.{refl}
-use Rattle.alm_calls.specs.LoopLaws.{vector_at, vector_not, vector_time, vector_number, vector_over}
+use Rattle.alm_calls.proofs.LoopLaws.{vector_at, vector_not, vector_time, vector_number, vector_over}
 use Rattle.alm_core.specs.Board.{six}
 use Rattle.alm_core.specs.declared.alm_cache.AlmPhase.TheVariants as P
 use borrow.Author.Rules.{rules}

@@ -1,5 +1,5 @@
 use lib.ListN.{length}
-use Rattle.alm_calls.specs.LoopLaws.{inner_refusal_lem, inner_ready, inner_n, inner_ends, inner_takes}
+use Rattle.alm_calls.proofs.LoopLaws.{inner_refusal_lem, inner_ready, inner_n, inner_ends, inner_takes}
 use Rattle.alm_answers.proofs.take_inner.Statement.{statement}
 use Rattle.alm_answers.proofs.take_inner.Tie as tie
 

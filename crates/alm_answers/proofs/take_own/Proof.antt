@@ -1,5 +1,5 @@
 use mathlib.Core.Bool.{true, false}
-use Rattle.alm_calls.specs.LoopLaws.{number_phase, decision_phase, refusal_of, took_number, took_vector, took_decision, took_failure}
+use Rattle.alm_calls.proofs.LoopLaws.{number_phase, decision_phase, refusal_of, took_number, took_vector, took_decision, took_failure}
 use Rattle.alm_core.specs.Board.{six}
 use borrow.Author.Rules.{rules}
 use Rattle.alm_answers.proofs.take_own.Statement.{statement}

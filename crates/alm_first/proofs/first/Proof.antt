@@ -1,4 +1,4 @@
-use Rattle.alm_calls.specs.LoopLaws.{first_is}
+use Rattle.alm_calls.proofs.LoopLaws.{first_is}
 use mathlib.Core.Path.{ap}
 use Rattle.panoc_core.specs.declared.panoc_cache.Solve.{Solve}
 use borrow.Author.Rules.{rules}

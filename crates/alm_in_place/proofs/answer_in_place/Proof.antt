@@ -1,4 +1,4 @@
-use Rattle.alm_calls.specs.LoopLaws.{refusal_wanted, answer_fits, answer_plan, answer_xi, answer_goes, answer_refused}
+use Rattle.alm_calls.proofs.LoopLaws.{refusal_wanted, answer_fits, answer_plan, answer_xi, answer_goes, answer_refused}
 use borrow.Author.Rules.{rules}
 use Rattle.alm_in_place.proofs.answer_in_place.Statement.{statement}
 use Rattle.alm_in_place.proofs.answer_in_place.Tie as tie

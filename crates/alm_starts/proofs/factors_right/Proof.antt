@@ -1,4 +1,4 @@
-use Rattle.alm_calls.specs.LoopLaws.{both_is, both_not}
+use Rattle.alm_calls.proofs.LoopLaws.{both_is, both_not}
 use Rattle.alm_calls.specs.LoopCalls.{factors_right}
 use borrow.Author.Rules.{rules}
 use Rattle.alm_starts.proofs.factors_right.Statement.{statement}

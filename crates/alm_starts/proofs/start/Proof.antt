@@ -1,4 +1,4 @@
-use Rattle.alm_calls.specs.LoopLaws.{starts}
+use Rattle.alm_calls.proofs.LoopLaws.{starts}
 use borrow.Author.Rules.{rules}
 use Rattle.alm_starts.proofs.start.Statement.{statement}
 use Rattle.alm_starts.proofs.start.Tie as tie

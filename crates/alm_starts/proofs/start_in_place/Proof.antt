@@ -1,5 +1,5 @@
 use mathlib.Core.Path.{sym, ◌∙◌, refl}
-use Rattle.alm_calls.specs.LoopLaws.{start_plan, start_xi, start_left, start_ready, start_runs, start_refuses}
+use Rattle.alm_calls.proofs.LoopLaws.{start_plan, start_xi, start_left, start_ready, start_runs, start_refuses}
 use native.Mathlib.Omega.{arith}
 use borrow.Author.Rules.{rules}
 use Rattle.alm_starts.proofs.start_in_place.Statement.{statement}

@@ -1,4 +1,4 @@
-use Rattle.alm_calls.specs.LoopLaws.{refuses_sizes, refuses_mappings, refuses_limits, refuses_tolerances, refuses_factors, refuses_xi, refuses_none}
+use Rattle.alm_calls.proofs.LoopLaws.{refuses_sizes, refuses_mappings, refuses_limits, refuses_tolerances, refuses_factors, refuses_xi, refuses_none}
 use borrow.Author.Rules.{rules}
 use Rattle.alm_starts.proofs.start_refusal.Statement.{statement}
 use Rattle.alm_starts.proofs.start_refusal.Tie as tie

@@ -1,5 +1,5 @@
 use Rattle.alm_image.specs.AlmImage.{alm_of}
-use Rattle.alm_calls.specs.LoopLaws.{sized_wide, sized_wide1, sized_wide2, sized_is}
+use Rattle.alm_calls.proofs.LoopLaws.{sized_wide, sized_wide1, sized_wide2, sized_is}
 use borrow.Author.Rules.{rules}
 use Rattle.alm_waiting.proofs.is_sized.Statement.{statement}
 use Rattle.alm_waiting.proofs.is_sized.Tie as tie

@@ -1,4 +1,4 @@
-use Rattle.alm_calls.specs.LoopLaws.{sound_last, sound_other, sound_not}
+use Rattle.alm_calls.proofs.LoopLaws.{sound_last, sound_other, sound_not}
 use Rattle.alm_image.proofs.Phases.{not_last, not_inner}
 use Rattle.alm_core.specs.declared.alm_cache.AlmPhase.TheVariants as P
 use Rattle.alm_image.specs.AlmImage.{alm_of, phase_of}

@@ -1,5 +1,5 @@
 use native.Mathlib.Omega.{arith}
-use Rattle.alm_calls.specs.LoopLaws.{counts_far, counts_many, counts_more, counts_last, counts_is}
+use Rattle.alm_calls.proofs.LoopLaws.{counts_far, counts_many, counts_more, counts_last, counts_is}
 use borrow.Author.Rules.{rules}
 use Rattle.alm_wanted.proofs.is_counted.Statement.{statement}
 use Rattle.alm_wanted.proofs.is_counted.Tie as tie

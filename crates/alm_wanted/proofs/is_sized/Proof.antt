@@ -1,4 +1,4 @@
-use Rattle.alm_calls.specs.LoopLaws.{sized_wide, sized_wide1, sized_wide2, sized_is}
+use Rattle.alm_calls.proofs.LoopLaws.{sized_wide, sized_wide1, sized_wide2, sized_is}
 use Rattle.alm_wanted.proofs.is_sized.Statement.{statement}
 use Rattle.alm_wanted.proofs.is_sized.Tie as tie
 

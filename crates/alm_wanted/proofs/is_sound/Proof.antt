@@ -1,5 +1,5 @@
 use mathlib.Core.Path.{refl}
-use Rattle.alm_calls.specs.LoopLaws.{sound_last, sound_other, sound_not}
+use Rattle.alm_calls.proofs.LoopLaws.{sound_last, sound_other, sound_not}
 use Rattle.alm_core.specs.declared.alm_cache.AlmPhase.TheVariants as P
 use borrow.Author.Rules.{rules}
 use Rattle.alm_wanted.proofs.is_sound.Statement.{statement}

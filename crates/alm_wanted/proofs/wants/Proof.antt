@@ -1,5 +1,5 @@
 use mathlib.Core.Path.{refl}
-use Rattle.alm_calls.specs.LoopLaws.{wants_at, wants_none}
+use Rattle.alm_calls.proofs.LoopLaws.{wants_at, wants_none}
 use Rattle.alm_core.specs.declared.alm_cache.AlmPhase.TheVariants as P
 use Rattle.panoc_core.specs.declared.refusals.Wanted.TheVariants as W
 use borrow.Author.Rules.{rules}

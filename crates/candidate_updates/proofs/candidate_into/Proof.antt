@@ -5,7 +5,7 @@ use native.Mathlib.Omega.{arith}
 use borrow.Author.Rules.{rules}
 use lib.ListN.{length, length-set}
 use lib.Ieee.{binary64}
-use Rattle.model.specs.Literals.{one_bits}
+use Rattle.model.proofs.Literals.{one_bits}
 use Rattle.model.specs.Vectors.{less_times}
 use Rattle.matrix_operations.specs.Firsts.{firsts}
 use Rattle.matrix_operations.specs.Laws.{firsts_grows, less_times_grows, store_none, store_turn}

@@ -6,7 +6,8 @@ use borrow.Author.Rules.{rules}
 use lib.ListN.{length}
 use Rattle.word_numbers.specs.Digits.{digits}
 use Rattle.word_printing.specs.Printing.{float_word, written}
-use Rattle.word_printing.specs.Written.{Spelt, spelt_none, spelt_turn, spelt_all, spelt_length}
+use Rattle.word_printing.specs.Written.{Spelt}
+use Rattle.word_printing.proofs.Written.{spelt_none, spelt_turn, spelt_all, spelt_length}
 use Rattle.float_printing.proofs.put_float.Statement.{statement}
 use Rattle.float_printing.proofs.put_float.Tie as tie
 

@@ -1,7 +1,7 @@
 -- `float_printing::to_bits` meets its contract: only nan differs from itself. Assumes nothing.
 use mathlib.Core.Path.{refl, sym, ap, ◌∙◌}
 use lib.Ieee.{binary64, to_bits}
-use Rattle.ieee.specs.Special.{no_nan}
+use Rattle.ieee.proofs.Special.{no_nan}
 use Rattle.word_numbers.specs.Floats.{nan_bits_lem}
 use borrow.Author.Rules.{rules}
 use Rattle.float_printing.proofs.to_bits.Statement.{statement}

@@ -2,7 +2,7 @@
 use Rattle.word_numbers.specs.Floats.{bits_nan, zero_over_zero}
 use mathlib.Core.Path.{◌∙◌}
 use lib.Ieee.{binary64}
-use Rattle.ieee.specs.Patterns.{no_nan_within}
+use Rattle.ieee.proofs.Patterns.{no_nan_within}
 use Rattle.word_numbers.specs.Floats.{bits_nan}
 use borrow.Author.Rules.{rules}
 use Rattle.float_words.proofs.of_bits.Statement.{statement}

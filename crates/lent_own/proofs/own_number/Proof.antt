@@ -1,7 +1,7 @@
 use Rattle.lent_loop.specs.Laws.{own_may, own_takes, short, short_xi, settles, blank}
 use Rattle.alm_image.specs.AlmImage.{alm_of}
 use Rattle.alm_image.proofs.Phases.{not_inner}
-use Rattle.alm_calls.specs.LoopLaws.{number_phase}
+use Rattle.alm_calls.proofs.LoopLaws.{number_phase}
 use Rattle.alm_core.specs.Board.{set_u, set_y_plus}
 use Rattle.panoc_core.specs.declared.panoc_cache.Reply.TheVariants.{Number}
 use mathlib.Core.List.{[]}

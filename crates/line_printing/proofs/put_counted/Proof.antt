@@ -2,7 +2,7 @@
 use native.Mathlib.Omega.{arith}
 use lib.ListN.{length-append}
 use Rattle.word_printing.specs.Printing.{counted_text, whole_word}
-use Rattle.word_printing.specs.Written.{behind_word, length_whole}
+use Rattle.word_printing.proofs.Written.{behind_word, length_whole}
 use borrow.Author.Rules.{rules}
 use Rattle.line_printing.proofs.put_counted.Statement.{statement}
 use Rattle.line_printing.proofs.put_counted.Tie as tie

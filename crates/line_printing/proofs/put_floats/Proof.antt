@@ -7,7 +7,7 @@ use native.Mathlib.Omega.{arith}
 use lib.ListN.{length, take, length-set}
 use lib.Seq.{take_all}
 use Rattle.word_printing.specs.Printing.{floats_text, written}
-use Rattle.word_printing.specs.Written.{floats_none, floats_turn}
+use Rattle.word_printing.proofs.Written.{floats_none, floats_turn}
 use Rattle.line_printing.proofs.put_floats.Statement.{statement}
 use Rattle.line_printing.proofs.put_floats.Tie as tie
 

@@ -1,7 +1,7 @@
 -- `line_printing::put_point` meets its contract: the floats stand behind the word. Assumes nothing.
 use native.Mathlib.Omega.{arith}
 use Rattle.word_printing.specs.Printing.{point_text, floats_text}
-use Rattle.word_printing.specs.Written.{behind_word, length_floats}
+use Rattle.word_printing.proofs.Written.{behind_word, length_floats}
 use borrow.Author.Rules.{rules}
 use Rattle.line_printing.proofs.put_point.Statement.{statement}
 use Rattle.line_printing.proofs.put_point.Tie as tie

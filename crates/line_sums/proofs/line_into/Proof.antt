@@ -6,7 +6,7 @@ use borrow.Author.Rules.{rules}
 use lib.ListN.{length, length-set}
 use lib.Ieee.{binary64}
 use Rattle.ieee.specs.Sums.{squares}
-use Rattle.model.specs.Literals.{one_bits}
+use Rattle.model.proofs.Literals.{one_bits}
 use Rattle.model.specs.Vectors.{minus, less_times}
 use Rattle.matrix_operations.specs.Firsts.{firsts}
 use Rattle.matrix_operations.specs.Laws.{firsts_all, firsts_grows, minus_grows, less_times_grows, store_none, store_turn, squares_none, squares_turn}

@@ -3,7 +3,7 @@ use mathlib.Core.Path.{◌≡◌, sym, ap, ◌∙◌, subst}
 use lib.Dec.{T}
 use lib.Ieee.{binary64, eq, lt, of_bits}
 use Rattle.ieee.specs.Numbers.{null}
-use Rattle.ieee.specs.Special.{zero_bits}
+use Rattle.ieee.proofs.Special.{zero_bits}
 use Rattle.numeric.proofs.Signs.{abs_less, abs_zero, abs_same}
 use Rattle.numeric.proofs.abs.Statement.{statement}
 use Rattle.numeric.proofs.abs.Tie as tie

@@ -1,8 +1,8 @@
 -- `numeric::is_finite` meets its contract: x - x equals 0 exactly at a finite x. Assumes nothing.
 use mathlib.Core.Path.{ap, ◌∙◌}
 use lib.Ieee.{binary64, eq, sub}
-use Rattle.ieee.specs.Special.{zero_bits}
-use Rattle.ieee.specs.Finite.{itself}
+use Rattle.ieee.proofs.Special.{zero_bits}
+use Rattle.ieee.proofs.Finite.{itself}
 use Rattle.numeric.proofs.is_finite.Statement.{statement}
 use Rattle.numeric.proofs.is_finite.Tie as tie
 

@@ -2,7 +2,7 @@
 use mathlib.Core.Path.{sym, subst}
 use lib.Dec.{T}
 use lib.Ieee.Compare.{differs_from_itself}
-use Rattle.ieee.specs.Larger.{larger_nan, larger_above, larger_else}
+use Rattle.ieee.proofs.Larger.{larger_nan, larger_above, larger_else}
 use Rattle.numeric.proofs.Signs.{nan_is, nan_not}
 use Rattle.numeric.proofs.max.Statement.{statement}
 use Rattle.numeric.proofs.max.Tie as tie

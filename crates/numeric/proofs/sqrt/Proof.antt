@@ -9,7 +9,7 @@ use lib.Ieee.Compare.{differs_from_itself}
 use borrow.Author.Rules.{rules}
 use Rattle.ieee.specs.Root.{root}
 use Rattle.ieee.specs.Numbers.{null}
-use Rattle.ieee.specs.Special.{zero_bits, nan_root, no_nan, zero_root, minus_root, last_root, bits_pos}
+use Rattle.ieee.proofs.Special.{zero_bits, nan_root, no_nan, zero_root, minus_root, last_root, bits_pos}
 use Rattle.numeric.proofs.sqrt.Statement.{statement}
 use Rattle.numeric.proofs.sqrt.Tie as tie
 

@@ -2,7 +2,7 @@ use native.Mathlib.Omega.{arith}
 use mathlib.Core.Path.{sym, ◌∙◌, ap}
 use lib.Ieee.{Float, binary64, mul, div, nan}
 use lib.ListN.{get_or}
-use Rattle.model.specs.Literals.{two_bits}
+use Rattle.model.proofs.Literals.{two_bits}
 use Rattle.image.specs.Image.{solve_of}
 use Rattle.panoc_core.specs.Laws.{sound_n, doubling_none, doubling_stays, doubling_goes}
 use Rattle.panoc_core.specs.Board.{set_u, set_gradient, set_step}

@@ -2,7 +2,7 @@ use native.Mathlib.Omega.{arith}
 use mathlib.Core.Path.{ap}
 use lib.Ieee.{Float, binary64, div, nan}
 use lib.ListN.{get_or}
-use Rattle.model.specs.Literals.{two_bits}
+use Rattle.model.proofs.Literals.{two_bits}
 use Rattle.image.specs.Image.{solve_of}
 use Rattle.panoc_core.specs.Laws.{sound_n, again_asks}
 use Rattle.panoc_core.specs.Board.{set_u, set_fpr, set_direction}

@@ -2,8 +2,8 @@
 use native.Mathlib.Omega.{arith}
 use borrow.Author.Rules.{rules}
 use lib.Ieee.{binary64}
-use Rattle.ieee.specs.Special.{no_nan}
-use Rattle.ieee.specs.Patterns.{no_nan_below}
+use Rattle.ieee.proofs.Special.{no_nan}
+use Rattle.ieee.proofs.Patterns.{no_nan_below}
 use Rattle.root_guess.proofs.guess.Statement.{statement}
 use Rattle.root_guess.proofs.guess.Tie as tie
 

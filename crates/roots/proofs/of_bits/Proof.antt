@@ -1,6 +1,6 @@
 -- `roots::of_bits` is safe: a pattern up to infinity's is no NaN's. Assumes nothing.
 use lib.Ieee.{binary64}
-use Rattle.ieee.specs.Patterns.{no_nan_within}
+use Rattle.ieee.proofs.Patterns.{no_nan_within}
 use borrow.Author.Rules.{rules}
 use Rattle.roots.proofs.of_bits.Statement.{statement}
 use Rattle.roots.proofs.of_bits.Tie as tie

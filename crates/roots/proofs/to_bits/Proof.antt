@@ -1,5 +1,5 @@
 -- `roots::to_bits` is safe: the pattern is asked of no NaN. Assumes nothing.
-use Rattle.ieee.specs.Special.{no_nan}
+use Rattle.ieee.proofs.Special.{no_nan}
 use borrow.Author.Rules.{rules}
 use Rattle.roots.proofs.to_bits.Statement.{statement}
 use Rattle.roots.proofs.to_bits.Tie as tie

@@ -1,6 +1,6 @@
 -- `shift_updates::shift_at` meets its contract: the test is that of `shift`. Assumes nothing.
 use lib.Ieee.{binary64}
-use Rattle.model.specs.Literals.{epsilon_lipschitz_bits, delta_lipschitz_bits}
+use Rattle.model.proofs.Literals.{epsilon_lipschitz_bits, delta_lipschitz_bits}
 use Rattle.matrix_operations.specs.Laws.{shift_above, shift_else}
 use Rattle.shift_updates.proofs.shift_at.Statement.{statement}
 use Rattle.shift_updates.proofs.shift_at.Tie as tie

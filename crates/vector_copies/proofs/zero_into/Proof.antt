@@ -2,7 +2,7 @@
 use mathlib.Core.Path.{ap}
 use lib.ListN.{replicate}
 use lib.Ieee.{binary64}
-use Rattle.ieee.specs.Special.{zero_bits}
+use Rattle.ieee.proofs.Special.{zero_bits}
 use Rattle.vector_copies.proofs.zero_into.Statement.{statement}
 use Rattle.vector_copies.proofs.zero_into.Tie as tie
 

@@ -2,7 +2,7 @@
 use mathlib.Core.Path.{ap}
 use lib.ListN.{replicate}
 use lib.Ieee.{binary64}
-use Rattle.ieee.specs.Special.{zero_bits}
+use Rattle.ieee.proofs.Special.{zero_bits}
 use Rattle.vector_copies.proofs.zeros.Statement.{statement}
 use Rattle.vector_copies.proofs.zeros.Tie as tie
 

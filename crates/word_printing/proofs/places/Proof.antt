@@ -1,6 +1,7 @@
 -- `word_printing::places` meets its contract: each turn counts a digit of `placesIn`. Assumes nothing.
 use Prim.Native.Nat.{◌≤◌, ◌<◌}
-use Rattle.word_printing.specs.Places.{Counted, counted_none, counted_turn, counted_all}
+use Rattle.word_printing.specs.Places.{Counted}
+use Rattle.word_printing.proofs.Places.{counted_none, counted_turn, counted_all}
 use Prim.Native.Nat.{◌≤◌, ◌<◌, ◌+◌, ◌-◌, ◌^◌}
 use mathlib.Core.Path.{◌≡◌, refl}
 use native.Mathlib.Omega.{arith}

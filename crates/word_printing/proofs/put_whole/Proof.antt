@@ -7,7 +7,8 @@ use lib.ListN.{length}
 use Prim.Native.Nat.{ℕ}
 use Rattle.word_numbers.specs.Digits.{digits}
 use Rattle.word_printing.specs.Printing.{whole_word, written}
-use Rattle.word_printing.specs.Written.{Spelt, spelt_none, spelt_turn, spelt_all, spelt_length, length_digits}
+use Rattle.word_printing.specs.Written.{Spelt}
+use Rattle.word_printing.proofs.Written.{spelt_none, spelt_turn, spelt_all, spelt_length, length_digits}
 use Rattle.word_printing.proofs.put_whole.Statement.{statement}
 use Rattle.word_printing.proofs.put_whole.Tie as tie
 

@@ -6,7 +6,7 @@ use native.Mathlib.Omega.{arith}
 use native.Mathlib.Numerals.{add-one}
 use lib.ListN.{length, length-set}
 use lib.Seq.{paste, paste-zero, paste-suc, length-paste}
-use Rattle.word_printing.specs.Written.{written_paste}
+use Rattle.word_printing.proofs.Written.{written_paste}
 use Rattle.word_printing.proofs.put_word.Statement.{statement}
 use Rattle.word_printing.proofs.put_word.Tie as tie
 

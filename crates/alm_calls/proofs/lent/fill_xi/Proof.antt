@@ -1,5 +1,5 @@
 use native.Mathlib.Omega.{arith}
-use Rattle.alm_calls.specs.LoopLaws.{xi_empty, xi_filled}
+use Rattle.alm_calls.proofs.LoopLaws.{xi_empty, xi_filled}
 use borrow.Author.Rules.{rules}
 use Rattle.alm_calls.proofs.lent.fill_xi.Statement.{statement}
 use Rattle.alm_calls.proofs.lent.fill_xi.Tie as tie

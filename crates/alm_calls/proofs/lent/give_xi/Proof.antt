@@ -1,5 +1,5 @@
 use native.Mathlib.Omega.{arith}
-use Rattle.alm_calls.specs.LoopLaws.{tail_length, tail_lent, tail_same}
+use Rattle.alm_calls.proofs.LoopLaws.{tail_length, tail_lent, tail_same}
 use borrow.Author.Rules.{rules}
 use Rattle.alm_calls.proofs.lent.give_xi.Statement.{statement}
 use Rattle.alm_calls.proofs.lent.give_xi.Tie as tie

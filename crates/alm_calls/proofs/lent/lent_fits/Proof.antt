@@ -1,4 +1,4 @@
-use Rattle.alm_calls.specs.LoopLaws.{lent_fits, lent_not}
+use Rattle.alm_calls.proofs.LoopLaws.{lent_fits, lent_not}
 use borrow.Author.Rules.{rules}
 use Rattle.alm_calls.proofs.lent.lent_fits.Statement.{statement}
 use Rattle.alm_calls.proofs.lent.lent_fits.Tie as tie

@@ -11,7 +11,7 @@ use Rattle.word_numbers.specs.Digits.{digit, numeral, glyph, digits, places_in}
 use Rattle.word_numbers.specs.Reading.{hex_of, by_bits, float_of, under, alone, whole_of}
 use Rattle.word_printing.specs.Printing.{float_word, whole_word}
 use Rattle.word_numbers.specs.Numerals.{whole_plain, under_some}
-use Rattle.word_printing.specs.Written.{length_digits}
+use Rattle.word_printing.proofs.Written.{length_digits}
 
 -- a digit's byte counts the digit
 pub digit_glyph : (d : ℕ) → d < 16 → digit (glyph d) ≡ d

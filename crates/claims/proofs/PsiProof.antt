@@ -7,11 +7,12 @@ use Rattle.std.proofs.Math.ListN.{length}
 use Rattle.model.specs.Process.{handed, refused, failed, ask, score, begin, stop}
 use Rattle.model.specs.Process as M
 use Rattle.model.specs.Refusals.{psi_refusal, penalty_in, multipliers_in, start_psi, start_d_psi, remains, lent_after, lent_at}
-use Rattle.model.specs.Bounds.{at_most_more, psi_at_most, d_psi_at_most}
+use Rattle.model.proofs.Bounds.{at_most_more, psi_at_most, d_psi_at_most}
 use Rattle.model.specs.Carry.{end_of}
 use Rattle.model.specs.Plans.{scoring}
-use Rattle.model.specs.EveryPsi.{d_psi_ends}
-use Rattle.model.specs.Refusing.{Refuses, psi_refuses, d_psi_refuses}
+use Rattle.model.proofs.EveryPsi.{d_psi_ends}
+use Rattle.model.specs.Refusing.{Refuses}
+use Rattle.model.proofs.Refusing.{psi_refuses, d_psi_refuses}
 use Rattle.factory.specs.declared.alm_factory.Sizes.{Sizes}
 use Rattle.factory.specs.declared.alm_factory.PsiOutcome.TheVariants as P
 use Rattle.factory.specs.declared.alm_factory.PsiRun.{PsiRun}
@@ -25,8 +26,10 @@ use Rattle.claims.specs.History.{Call, History}
 use Rattle.claims.specs.Trace.{refusal, leads_to, left}
 use Rattle.claims.specs.Claim.{Over}
 use Rattle.claims.specs.Psi.{psi_runs, psi_number, psi_of, PsiClaim, d_psi_runs, d_psi_number, d_psi_of, DPsiClaim}
-use Rattle.claims.specs.Lawful.{refused_by, Gives, nothing, back, gives_as, Lawful, begins}
-use Rattle.claims.specs.Follow.{no_run, After, follow, follows, Back, each_each, each_back}
+use Rattle.claims.specs.Lawful.{refused_by, Gives, nothing, back, Lawful}
+use Rattle.claims.proofs.Lawful.{gives_as, begins}
+use Rattle.claims.specs.Follow.{After, Back}
+use Rattle.claims.proofs.Follow.{no_run, follow, follows, each_each, each_back}
 
 beyond : (m : ℕ) → ⊥ → 9 ≤ m
 beyond m z = absurd z

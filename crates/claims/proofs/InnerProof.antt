@@ -6,14 +6,16 @@ use Rattle.std.specs.Float.{binary64}
 use Rattle.model.specs.Process.{Handed, Solve, handed, refused, failed, ask, score, begin, stop}
 use Rattle.model.specs.Inner.{solve}
 use Rattle.model.specs.Refusals.{inner_refusal, start_inner, remains, lent_after, lent_at, plan_of}
-use Rattle.model.specs.Bounds.{AtMost, at_most_more, Weights, weigh, only_cost, only_gradient, only_project, only_direction, only_time, solve_questions_at_most, solve_cost_at_most, solve_gradient_at_most, solve_project_at_most, solve_direction_at_most, solve_time_at_most}
+use Rattle.model.specs.Bounds.{AtMost, Weights, weigh, only_cost, only_gradient, only_project, only_direction, only_time}
+use Rattle.model.proofs.Bounds.{at_most_more, solve_questions_at_most, solve_cost_at_most, solve_gradient_at_most, solve_project_at_most, solve_direction_at_most, solve_time_at_most}
 use Rattle.model.specs.Scoring.{seen, nothing_yet, tracing}
 use Rattle.model.specs.Carry.{end_of}
 use Rattle.model.specs.Least.{Scored}
 use Rattle.model.specs.Plans.{scoring, Ends, SolvePlan}
-use Rattle.model.specs.Refusing.{Refuses, Among, solve_refuses}
-use Rattle.model.specs.Starts.{start_inner_ends}
-use Rattle.model.specs.EverySolve.{solve_traced}
+use Rattle.model.specs.Refusing.{Refuses, Among}
+use Rattle.model.proofs.Refusing.{solve_refuses}
+use Rattle.model.proofs.Starts.{start_inner_ends}
+use Rattle.model.proofs.EverySolve.{solve_traced}
 use Rattle.panoc_core.specs.declared.panoc_cache.Settings.{Settings}
 use Rattle.panoc_core.specs.declared.panoc_cache.SolverStatus.{SolverStatus}
 use Rattle.panoc_core.specs.declared.panoc_cache.Outcome.TheVariants.{Ended, Refused}
@@ -27,10 +29,12 @@ use Rattle.panoc_core.specs.Calls.{Starts, asking}
 use Rattle.claims.specs.History.{Call, History}
 use Rattle.claims.specs.Trace.{refusal, leads_to, weighed, left, scored}
 use Rattle.claims.specs.Claim.{Over, scores}
-use Rattle.claims.specs.Lawful.{refused_by, Gives, nothing, back, gives_as, Lawful, begins}
-use Rattle.claims.specs.Left.{scores_right, right_left, within_left}
-use Rattle.claims.specs.Follow.{no_run, After, follow, follows, Back, each_each, each_back}
-use Rattle.claims.specs.Chosen.{plan_is, is_converged}
+use Rattle.claims.specs.Lawful.{refused_by, Gives, nothing, back, Lawful}
+use Rattle.claims.proofs.Lawful.{gives_as, begins}
+use Rattle.claims.proofs.Left.{scores_right, right_left, within_left}
+use Rattle.claims.specs.Follow.{After, Back}
+use Rattle.claims.proofs.Follow.{no_run, follow, follows, each_each, each_back}
+use Rattle.claims.proofs.Chosen.{plan_is, is_converged}
 use Rattle.claims.specs.Inner.{number_of, inner_runs, solve_of, trace_of, InnerHands, InnerClaim}
 
 -- ---- the contract of the calls, in the shared terms

@@ -6,20 +6,23 @@ use Rattle.std.specs.Float.{Format}
 use Rattle.std.specs.Float.Ieee.{lt}
 use Rattle.std.specs.Float.Ieee.Scale.{finite}
 use Rattle.ieee.specs.Numbers.{null}
-use Rattle.ieee.specs.Order.{upward, above_zero}
+use Rattle.ieee.specs.Order.{upward}
+use Rattle.ieee.proofs.Order.{above_zero}
 use Rattle.model.specs.Process.{Process, converged}
 use Rattle.model.specs.State.{Settings}
 use Rattle.model.specs.Loop.{LoopSettings}
 use Rattle.model.specs.Psi.{Sizes}
 use Rattle.model.specs.Refusals.{unless, sizes_right, xi_length, mappings_right, limit_right, tolerance_right, akkt_right, loop_numbers_right, inner_refusal, loop_refusal, penalty_in, multipliers_in, or_refused, start_inner, start_loop, start_psi, start_d_psi}
-use Rattle.model.specs.Facts.{and_left, and_right}
-use Rattle.model.specs.Bounds.{AtMost, Weights, weigh, solve_bound, solve_at_most, solve_questions_at_most, worst_case, loop_at_most, psi_at_most, d_psi_at_most}
+use Rattle.model.proofs.Facts.{and_left, and_right}
+use Rattle.model.specs.Bounds.{AtMost, Weights, weigh, solve_bound, worst_case}
+use Rattle.model.proofs.Bounds.{solve_at_most, solve_questions_at_most, psi_at_most, d_psi_at_most}
+use Rattle.model.proofs.LoopBounds.{loop_at_most}
 use Rattle.model.specs.Paths.{Watch, Along}
 use Rattle.model.specs.Scoring.{seen, seen_in_loop, nothing_yet, tracing, Traced}
 use Rattle.model.specs.Counts.{counting, Counted, SolveCount, LoopCount}
 use Rattle.model.specs.Plans.{scoring, Ends, SolvePlan, LoopPlan}
-use Rattle.model.specs.EverySolve.{solve_traced, solve_ends, solve_counted}
-use Rattle.model.specs.EveryLoop.{loop_traced, loop_ends, loop_counted, one_outer_never_converged}
+use Rattle.model.proofs.EverySolve.{solve_traced, solve_ends, solve_counted}
+use Rattle.model.proofs.EveryLoop.{loop_traced, loop_ends, loop_counted, one_outer_never_converged}
 
 -- ---- what an accepted start says
 

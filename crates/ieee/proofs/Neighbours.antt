@@ -7,7 +7,7 @@ use Rattle.std.specs.Float.{nan, inf, fin, Format}
 use Rattle.std.specs.Float.Ieee.{prec, emax, low, up, down, fits}
 use Rattle.std.specs.Float.Ieee.Fits.{two, and_l, and_r, down_pos}
 use Rattle.std.specs.Float.Ieee.Exact.{HasValue}
-use Rattle.ieee.specs.Bracket.{in_power}
+use Rattle.ieee.proofs.Bracket.{in_power}
 
 less_back : (x y c : ℕ) → x * c < y * c → x < y
 less_back x y c h = lt_of_not-le (λ (g : y ≤ x). lt_irrefl (x * c) (lt_of_lt_of_le h (mul-le-mul_right c g)))

@@ -2,8 +2,8 @@
 use Rattle.std.specs.Prelude.{◌≡◌, List, [], eqb, Float, length}
 use Rattle.std.specs.Float.{Format}
 use Rattle.model.specs.Psi.{Sizes, d_psi, d_psi_gradient, d_psi_f1, d_psi_c, d_psi_jf1, d_psi_ask_f2, d_psi_f2, d_psi_jf2}
-use Rattle.model.specs.Facts.{plus_times_size}
-use Rattle.model.specs.Paths.{along_cond}
+use Rattle.model.proofs.Facts.{plus_times_size}
+use Rattle.model.proofs.Paths.{along_cond}
 use Rattle.model.specs.Plans.{Ends}
 
 module _ (f : Format) (s : Sizes) (u : List Float) (c : Float) (y : List Float) where

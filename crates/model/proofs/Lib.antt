@@ -1,0 +1,16 @@
+pub mod Literals
+pub mod Facts
+pub mod Bounds
+pub mod LoopBounds
+pub mod Least
+pub mod Paths
+pub mod EverySolve
+pub mod EveryLoop
+pub mod EveryPsi
+pub mod Carry
+pub mod Refusing
+pub mod Starts
+pub mod EveryState
+pub mod Tests
+pub mod Table
+pub mod Bench
