@@ -7,7 +7,7 @@ rounds=${1:-2000}
 out=target/bench
 mkdir -p "$out"
 if [ "$(uname -m)" != x86_64 ]; then
-  echo "bench: 'rt staticlib' writes for x86-64 and this is $(uname -m)" >&2
+  echo "bench: 'rt lib' writes for x86-64 and this is $(uname -m)" >&2
   exit 2
 fi
 cc=${CC:-gcc}

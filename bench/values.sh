@@ -4,13 +4,9 @@ set -euo pipefail
 cd "$(dirname "$0")/.."
 out=target/bench
 mkdir -p "$out"
-archives=()
-for crate in values loop_values; do
-  if ! rt staticlib "$crate" >"$out/$crate.log" 2>&1; then
-    tail -n 20 "$out/$crate.log" >&2
-    exit 1
-  fi
-  archives+=("target/staticlib/lib$crate.a")
-done
-"${CC:-gcc}" -std=c11 -D_POSIX_C_SOURCE=200809L -O3 -ffp-contract=off -Wall -Wextra -Werror -o "$out/values" bench/c/values.c bench/c/models.c "${archives[@]}"
+if ! bash tools/build.sh values_c >"$out/values_c.log" 2>&1; then
+  tail -n 20 "$out/values_c.log" >&2
+  exit 1
+fi
+"${CC:-gcc}" -std=c11 -D_POSIX_C_SOURCE=200809L -O3 -ffp-contract=off -Wall -Wextra -Werror -o "$out/values" bench/c/values.c bench/c/models.c target/staticlib/libvalues_c.a
 "$out/values" "$@"

@@ -121,7 +121,7 @@ def psi_question(kind, rest):
     if kind in ("jf1t", "jf2t"):
         u, d = split(rest, "d")
         return f"{kind} {vector(u)} {vector(d)}"
-    return f"{'projectC' if kind == 'project_c' else kind} {vector(rest)}"
+    return f"{kind} {vector(rest)}"
 
 
 class Loop:
@@ -143,11 +143,10 @@ class Loop:
             return f"Asks.inner {self.xi} " + (f"(Asks.Question.{asked})" if " " in asked else f"Asks.Question.{asked}")
         if kind == "time":
             return "Asks.LoopQuestion.time"
-        name = {"project_y": "projectY", "project_c": "projectC"}.get(kind, kind)
-        return f"Asks.LoopQuestion.{name} {vector(rest)}"
+        return f"Asks.LoopQuestion.{kind} {vector(rest)}"
 
 
-STATUS = {"Converged": "converged", "NotConvergedIterations": "notConvergedIterations", "NotConvergedOutOfTime": "notConvergedOutOfTime"}
+STATUS = {"Converged": "converged", "NotConvergedIterations": "not_converged_iterations", "NotConvergedOutOfTime": "not_converged_out_of_time"}
 
 
 def handed(kind, rest, u, xi):
@@ -160,7 +159,7 @@ def handed(kind, rest, u, xi):
     norm, cost, c, delta, f2 = (real(x) for x in rest[3:])
     return (
         f"(record {{ plan = {vector(u)}; multipliers = {vector(xi[1:])}; penalty = {c}; status = {STATUS[rest[0]]}; outer = {rest[1]}; "
-        f"inner = {rest[2]}; norm = {norm}; deltaY = {delta}; f2 = {f2}; cost = {cost} }})"
+        f"inner = {rest[2]}; norm = {norm}; delta_y = {delta}; f2 = {f2}; cost = {cost} }})"
     )
 
 
@@ -198,23 +197,24 @@ def start(line):
         n, m, limited, tolerance, akkt, *u = rest
         akkt = "none" if akkt == "-" else f"some {atom(akkt)}"
         settings = f"record {{ n = {n}; limit = {m}; limited = {boolean(limited)}; tolerance = {real(tolerance)}; akkt = {akkt} }}"
-        return f"startInner binary64 ({settings}) {vector(u)}"
+        return f"start_inner binary64 ({settings}) {vector(u)}"
     if kind == "loop":
         n, n1, n2, y, m, k, limited, *rest = rest
-        names = ["tolerance", "epsilon", "delta", "akkt", "penaltyFactor", "epsilonFactor", "coefficient"]
+        names = ["tolerance", "epsilon", "delta", "akkt", "penalty_factor", "epsilon_factor", "coefficient"]
         reals = "; ".join(f"{name} = {real(x)}" for name, x in zip(names, rest))
         u, xi = rest[8 : 8 + int(rest[7])], rest[8 + int(rest[7]) :]
-        settings = f"record {{ n = {n}; n1 = {n1}; n2 = {n2}; setY = {boolean(y)}; limit = {m}; outer = {k}; limited = {boolean(limited)}; {reals} }}"
-        return f"startLoop binary64 ({settings}) {vector(u)} {vector(xi)}"
+        settings = f"record {{ n = {n}; n1 = {n1}; n2 = {n2}; set_y = {boolean(y)}; limit = {m}; outer = {k}; limited = {boolean(limited)}; {reals} }}"
+        return f"start_loop binary64 ({settings}) {vector(u)} {vector(xi)}"
     n, n1, n2, us, *rest = rest
     u, xi = rest[: int(us)], rest[int(us) :]
-    return f"{'startPsi' if kind == 'psi' else 'startDPsi'} binary64 (record {{ n = {n}; n1 = {n1}; n2 = {n2} }}) {vector(u)} {vector(xi)}"
+    return f"{'start_psi' if kind == 'psi' else 'start_d_psi'} binary64 (record {{ n = {n}; n1 = {n1}; n2 = {n2} }}) {vector(u)} {vector(xi)}"
 
 
 def slug(title):
     """A theorem's name from a heading: its words up to the first comma or semicolon."""
     words = re.findall(r"[A-Za-z0-9]+", re.split(r"[,;]", title)[0].replace("|", ""))
-    return "-".join(["at"] * words[0].isdigit() + words)
+    words = [re.sub(r"([a-z])([A-Z])", r"\1_\2", word.replace("NaN", "nan")).lower() for word in words]
+    return "_".join(["at"] * words[0].isdigit() + words)
 
 
 def theorem(name, lines):
@@ -223,31 +223,46 @@ def theorem(name, lines):
     written = said(kind, printed, lent)
     entries = [f"{w} ▷ {answer(a)}" for w, a in zip(written, lines[1:])] + [f"says ({written[-1]})"]
     body = "(" + "\n    ∷ ".join(entries + ["[])"])
-    unfolds = {"inner": "allInner", "loop": "allLoop"}.get(kind, "allPsi")
+    unfolds = {"inner": "all_inner", "loop": "all_loop"}.get(kind, "all_psi")
     return f"pub {name} :\n    Shows ({start(lines[0])})\n    {body}\nunfolding {unfolds} Shows spoken\n{name} = refl\n"
 
 
 HEAD = """-- Corners of document 01, whole, as the Rust plays them (tests/corners.py wrote this file): {what}. Assumes nothing.
-use mathlib.Core.Path.{{refl}}
-use mathlib.Core.Bool.{{true, false}}
-use mathlib.Core.List.{{List, [], _∷_}}
-use mathlib.Core.Option.{{none, some}}
-use lib.Ieee.{{Float, nan, inf, binary64, neg}}
-use Rattle·ieee.specs.Numbers.{{null}}
-use Rattle·model.specs.Process as Asks
-use Rattle·model.specs.Process.{{handed, refused, failed, converged, notConvergedIterations, notConvergedOutOfTime}}
-use Rattle·model.specs.Refusals.{{startInner, startLoop, startPsi, startDPsi}}
-use Rattle·model.specs.Play.{{asked, ended, turned}}
-use Rattle·model.specs.Script.{{int, _·2^_, _/2^_, only, number, vector, yea, nay, failure, says, _▷_, allInner, allLoop, allPsi}}
-use {shown}.specs.Shown.{{Shows, spoken}}
+use Rattle.std.specs.Prelude.{{refl, true, false, [], ◌∷◌}}
+use Rattle.std.proofs.Math.Option.{{none, some}}
+use Rattle.std.specs.Float.{{nan, inf, binary64}}
+use Rattle.std.specs.Float.Ieee.{{neg}}
+use Rattle.ieee.specs.Numbers.{{null}}
+use Rattle.model.specs.Process as Asks
+use Rattle.model.specs.Process.{{handed, refused, failed, converged, not_converged_iterations, not_converged_out_of_time}}
+use Rattle.model.specs.Refusals.{{start_inner, start_loop, start_psi, start_d_psi}}
+use Rattle.model.specs.Play.{{asked, ended, turned}}
+use Rattle.model.specs.Script.{{int, ◌·2^◌, ◌/2^◌, only, number, vector, yea, nay, failure, says, ◌▷◌, all_inner, all_loop, all_psi}}
+use Rattle.corners.specs.Shown.{{Shows, spoken}}
 """
+
+
+def head(what, text):
+    """The file's first lines, which bring in what its runs name."""
+    code = "\n".join(line for line in text.splitlines() if not line.startswith("--"))
+    words = set(re.findall(r"[^\s(){}.;,]+", code)) | {"[]"}
+    named = lambda item: all(part in words for part in item.split("◌") if part)
+    out = []
+    for line in HEAD.format(what=what).splitlines():
+        path, _, items = line.partition("{")
+        if items:
+            items = [item for item in items.rstrip("}").split(", ") if named(item)]
+            line = f"{path}{{{', '.join(items)}}}" if items else None
+        out += [line] if line else []
+    return "\n".join(out) + "\n"
+
+
 FILES = {
     "inner": ("corners", "InnerCorners", "inner solves"),
     "loop": ("loop_corners", "LoopCorners", "the loop"),
     "psi": ("corners", "PsiCorners", "psi"),
     "d_psi": ("corners", "DPsiCorners", "d_psi"),
 }
-SHOWN = {"corners": "Rattle·corners·specs", "loop_corners": "Rattle·corners"}
 
 
 def main():
@@ -261,9 +276,9 @@ def main():
             texts[kind] += f"\n-- ---- {title}\n"
             heading[kind] = title
         places[title] = places.get(title, 0) + 1
-        texts[kind] += "\n" + theorem(f"{slug(title)}-{places[title]}", lines)
+        texts[kind] += "\n" + theorem(f"{slug(title)}_{places[title]}", lines)
     for kind, (crate, name, what) in FILES.items():
-        path, text = TOP / "crates" / crate / "specs" / f"{name}.antt", HEAD.format(what=what, shown=SHOWN[crate]) + texts[kind]
+        path, text = TOP / "crates" / crate / "specs" / f"{name}.antt", head(what, texts[kind]) + texts[kind]
         if "--check" not in sys.argv[1:]:
             path.write_text(text)
         elif path.read_text() != text:

@@ -9,7 +9,7 @@ expected=$examples/kiln.out
 archive=target/staticlib/libpozkerrin.a
 
 if [ "$(uname -m)" != x86_64 ]; then
-  echo "host: not run, since 'rt staticlib' writes for x86-64 and this is $(uname -m)"
+  echo "host: not run, since 'rt lib' writes for x86-64 and this is $(uname -m)"
   exit 0
 fi
 if ! command -v ar >/dev/null; then

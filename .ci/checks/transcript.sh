@@ -6,7 +6,7 @@ if ! command -v cargo >/dev/null || [ ! -d ../shared/docs/src ]; then
   echo "not compared with the Rust: no cargo, or no Rust source at ../shared/docs/src"
   exit 0
 fi
-rt check transcript | tail -n 1
+bash tools/build.sh transcript
 bash oracle/compare.sh 5000
 bash oracle/record.sh | tail -n 1
 for part in stdin stdout; do

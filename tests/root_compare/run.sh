@@ -12,11 +12,11 @@ if [ -z "${compiler:-}" ]; then
   exit 3
 fi
 if [ "$(uname -m)" != x86_64 ]; then
-  echo "root_compare: not run, since 'rt staticlib' writes for x86-64 and this is $(uname -m)"
+  echo "root_compare: not run, since 'rt lib' writes for x86-64 and this is $(uname -m)"
   exit 3
 fi
 mkdir -p target/root_compare
-if ! rt staticlib numeric_c >target/root_compare/staticlib.log 2>&1; then
+if ! bash tools/build.sh numeric_c >target/root_compare/staticlib.log 2>&1; then
   tail -n 20 target/root_compare/staticlib.log
   exit 1
 fi

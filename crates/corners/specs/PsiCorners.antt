@@ -1,14 +1,13 @@
 -- Corners of document 01, whole, as the Rust plays them (tests/corners.py wrote this file): psi. Assumes nothing.
-use Rattle.std.specs.Prelude.{refl, true, false, List, [], ◌∷◌, Float}
-use Rattle.std.proofs.Math.Option.{none, some}
+use Rattle.std.specs.Prelude.{refl, false, [], ◌∷◌}
 use Rattle.std.specs.Float.{nan, inf, binary64}
 use Rattle.std.specs.Float.Ieee.{neg}
 use Rattle.ieee.specs.Numbers.{null}
 use Rattle.model.specs.Process as Asks
-use Rattle.model.specs.Process.{handed, refused, failed, converged, not_converged_iterations, not_converged_out_of_time}
-use Rattle.model.specs.Refusals.{start_inner, start_loop, start_psi, start_d_psi}
+use Rattle.model.specs.Process.{handed, refused, failed}
+use Rattle.model.specs.Refusals.{start_psi}
 use Rattle.model.specs.Play.{asked, ended, turned}
-use Rattle.model.specs.Script.{int, ◌·2^◌, ◌/2^◌, only, number, vector, yea, nay, failure, says, ◌▷◌, all_inner, all_loop, all_psi}
+use Rattle.model.specs.Script.{int, ◌·2^◌, ◌/2^◌, only, number, vector, yea, failure, says, ◌▷◌, all_psi}
 use Rattle.corners.specs.Shown.{Shows, spoken}
 
 -- ---- starts: the sizes, and the lower number first

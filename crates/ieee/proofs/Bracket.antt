@@ -13,7 +13,6 @@ use Rattle.std.specs.Float.Ieee.Exact.{HasValue}
 use Rattle.ieee.specs.Root.{root, root_of, whole_root}
 use Rattle.ieee.specs.Squares.{nearer}
 use Rattle.ieee.proofs.Squares.{whole_root_is, sq_one, sq_double, sq_lt_back, root_of_at, compare_lt, compare_gt, root_value}
-
 use Rattle.ieee.specs.Bracket.{Nearest}
 
 -- only one float is that

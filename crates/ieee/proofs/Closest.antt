@@ -14,7 +14,6 @@ use Rattle.ieee.specs.Bracket.{Nearest}
 use Rattle.ieee.proofs.Bracket.{root_is_nearest}
 use Rattle.ieee.proofs.Neighbours.{neighbours}
 use Rattle.ieee.proofs.Patterns.{units_fits, same_value}
-
 use Rattle.ieee.specs.Closest.{Closest, most}
 
 -- ---- one float only

@@ -1,5 +1,5 @@
 -- What a finite result says of its operands, and the test that tells a finite number: it minus itself equals 0. Assumes nothing.
-use Rattle.std.specs.Prelude.{ℕ, ◌*◌, ◌-◌, ◌<◌, ◌≡◌, refl, Bool, true, false, not, cond, T, eqb, Float}
+use Rattle.std.specs.Prelude.{ℕ, ◌*◌, ◌<◌, ◌≡◌, refl, Bool, true, false, not, cond, T, eqb, Float}
 use Rattle.std.proofs.Common.{sym, ◌∙◌, arith, zero-mul, mul-pos, le-ltb}
 use Rattle.std.specs.Bool.{beq}
 use Rattle.std.proofs.Math.Nat.{sub_self}

@@ -12,7 +12,6 @@ use Rattle.std.specs.Float.Ieee.Positive.{through}
 use Rattle.std.specs.Float.Ieee.Scale.{finite}
 use Rattle.ieee.specs.Numbers.{null, absolute}
 use Rattle.ieee.specs.Root.{root, root_of}
-
 use Rattle.ieee.specs.Order.{upward}
 
 cond_upward : (b : Bool) (x y : Float) → T (upward x) → T (upward y) → T (upward (cond b x y))

@@ -1,5 +1,5 @@
 -- A float by its bit pattern, in either format: the size of a number above zero in units of the format's smallest value, and the pattern of so many units. Assumes nothing.
-use Rattle.std.specs.Prelude.{◌≡◌, refl, ◌⊎◌, ℕ, zero, suc, ◌+◌, ◌-◌, ◌*◌, ◌/◌, ◌%◌, ◌^◌, ◌≤◌, ◌<◌, Bool, true, false, not, cond, Float}
+use Rattle.std.specs.Prelude.{◌≡◌, refl, ◌⊎◌, ℕ, suc, ◌+◌, ◌-◌, ◌*◌, ◌/◌, ◌%◌, ◌^◌, ◌≤◌, ◌<◌, Bool, true, false, not, cond, Float}
 use Rattle.std.proofs.Common.{sym, ap, ◌∙◌, subst, inl, inr, arith, true≢false, pow_pos}
 use native.Mathlib.Nat.{le_refl, le_trans, le_of_eq, le_of_lt, lt_irrefl, lt_of_lt_of_le, lt_of_le_of_lt, zero-lt-suc, zero-add, one-mul, mul-one, mul_comm, mul-pos, mul-lt-mul_of_pos_right, mul-div_cancel, le-mul_of_pos_right, div-eq_of_lt, mod-eq_of_lt, div-lt_iff_lt-mul, le-div_iff_mul-le}
 use lib.Dec.{T, leb, ltb, eqb, lt→ltb, ltb→lt, eqb→eq, not_T}
@@ -12,7 +12,6 @@ use Rattle.std.specs.Float.Ieee.Exact.{HasValue, odd_sign, units_val}
 use Rattle.std.specs.Float.Ieee.Bits.{is_true, is_false, cond_no, of_bits-to_bits, nan_bits_above}
 use Rattle.ieee.specs.Root.{root, root_of}
 use Rattle.ieee.proofs.Squares.{size_kept, root_value}
-
 use Rattle.ieee.specs.Patterns.{mag}
 
 -- ---- patterns without the sign's bit

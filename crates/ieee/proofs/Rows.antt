@@ -5,7 +5,6 @@ use Rattle.std.specs.Float.Ieee.{of_bits, to_bits, add, mul}
 use Rattle.ieee.specs.Numbers.{null, absolute, larger}
 use Rattle.ieee.specs.Sums.{squares_from, squares, norm}
 use Rattle.ieee.specs.Root.{root}
-
 use Rattle.ieee.specs.Rows.{on}
 
 pub four : on binary64 0x4010_0000_0000_0000 ≡ 0x4000_0000_0000_0000

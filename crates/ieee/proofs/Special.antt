@@ -8,7 +8,6 @@ use Rattle.std.specs.Float.Ieee.Bits.{of_bits-to_bits}
 use Rattle.ieee.specs.Numbers.{null}
 use Rattle.ieee.specs.Root.{root, root_of}
 use Rattle.ieee.proofs.Patterns.{of_bits_is, plain}
-
 use Rattle.ieee.specs.Special.{Neg}
 
 -- ---- NaN and the zeros

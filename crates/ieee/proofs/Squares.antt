@@ -11,7 +11,6 @@ use Rattle.std.specs.Float.Ieee.Exact.{HasValue}
 use Rattle.std.specs.Float.Ieee.Digits.{size-lt, size-le}
 use Rattle.std.specs.Float.Ieee.Fits.{two, down_pos}
 use Rattle.ieee.specs.Root.{grow, root_below, whole_root, root_of, root}
-
 use Rattle.ieee.specs.Squares.{IsNear, IsRoot, nearer}
 
 -- ---- squares

@@ -7,7 +7,6 @@ use Rattle.ieee.specs.Numbers.{null}
 use Rattle.ieee.proofs.Finite.{add_finite, mul_finite, root_finite}
 use Rattle.ieee.specs.Order.{upward}
 use Rattle.ieee.proofs.Order.{add_upward, square_upward, root_upward}
-
 use Rattle.ieee.specs.Sums.{AllFinite, norm, squares, squares_from}
 
 pub squares_from_finite : (f : Format) (acc : Float) (v : List Float) → T (finite (squares_from f acc v)) → T (finite acc) × AllFinite v

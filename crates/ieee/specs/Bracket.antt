@@ -1,10 +1,7 @@
 -- What `root` is, said by whole-number squares alone: the nearer of two neighbouring floats, and never a tie. Assumes nothing.
 use Rattle.std.specs.Prelude.{◌≡◌, ◌⊎◌, false}
 use Prim.Native.Nat.{ℕ, ◌+◌, ◌-◌, ◌*◌, ◌^◌, ◌≤◌, ◌<◌}
-use lib.Ieee.{Float, Format, prec, nearest, units}
-use Rattle.ieee.specs.Root.{root}
-use Rattle.ieee.specs.Squares.{nearer}
-
+use lib.Ieee.{Float, Format, prec, units}
 
 -- r is the float nearest to the root of n, a number of squares of the format's smallest value. q has all the digits that the format keeps, so the floats q * 2 ^ k and (q + 1) * 2 ^ k
 -- are neighbours. The root of n lies from the first on and below the second, and the square of what lies midway, taken four times, tells which is nearer. It is never n * 4.

@@ -2,9 +2,8 @@
 -- Of two sizes c < b, c is the nearer to the root of n exactly where that root lies below their middle, 4 * n < (c + b) * (c + b), and b where it lies above. Assumes nothing.
 use Rattle.std.specs.Prelude.{ℕ, suc, ◌+◌, ◌*◌, ◌^◌, ◌<◌, false, T, Float}
 use Rattle.std.specs.Float.{Format}
-use Rattle.std.specs.Float.Ieee.{emax, low, units, fits}
+use Rattle.std.specs.Float.Ieee.{emax, low, fits}
 use Rattle.std.specs.Float.Ieee.Exact.{HasValue}
-
 
 pub record Closest (f : Format) (n : ℕ) (r : Float) : Type 0 where
   pub held : T (fits f r)

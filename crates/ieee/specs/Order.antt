@@ -2,7 +2,6 @@
 use Rattle.std.specs.Prelude.{Bool, true, not, Float}
 use Rattle.std.specs.Float.{nan, inf, fin}
 
-
 -- ---- signs: nan, or not negative
 
 abbrev pub upward : Float → Bool

@@ -1,9 +1,8 @@
 -- A float by its bit pattern, in either format: the size of a number above zero in units of the format's smallest value, and the pattern of so many units. Assumes nothing.
-use Rattle.std.specs.Prelude.{◌≡◌, ℕ, zero, suc, ◌+◌, ◌-◌, ◌*◌, ◌/◌, ◌%◌, ◌^◌, cond}
+use Rattle.std.specs.Prelude.{◌≡◌, ℕ, suc, ◌+◌, ◌-◌, ◌*◌, ◌/◌, ◌%◌, ◌^◌, cond}
 use lib.Dec.{ltb}
 use Rattle.std.specs.Float.{Format}
-use Rattle.std.specs.Float.Ieee.{prec, low, size, units, hid}
-
+use Rattle.std.specs.Float.Ieee.{prec, low, hid}
 
 -- ---- the size of a number above zero, in units of the format's smallest value, by its pattern
 unfoldable pub mag : Format → ℕ → ℕ

@@ -2,7 +2,6 @@
 use Rattle.std.specs.Prelude.{◌≡◌, true}
 use lib.Ieee.{Float, nan, inf, fin}
 
-
 -- ---- negative, or a NaN
 abbrev pub Neg : Float → Type 0
 Neg nan = Unit {0}

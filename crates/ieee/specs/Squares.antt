@@ -1,10 +1,8 @@
 -- What `wholeRoot` finds, and what `rootOf` is by whole-number squares alone. Assumes nothing.
 use Rattle.std.specs.Prelude.{false, Float}
-use Prim.Native.Nat.{ℕ, ◌+◌, ◌-◌, ◌*◌, ◌^◌, ◌≤◌, ◌<◌, compare}
+use Prim.Native.Nat.{ℕ, ◌+◌, ◌*◌, ◌^◌, ◌≤◌, ◌<◌, compare}
 use Rattle.std.specs.Float.{Format}
 use Rattle.std.specs.Float.Ieee.{nearest, units}
-use Rattle.ieee.specs.Root.{root}
-
 
 -- r is the whole part of n's root
 abbrev pub IsRoot : ℕ → ℕ → Type 0

@@ -6,7 +6,6 @@ use Rattle.std.specs.Float.Ieee.Scale.{finite}
 use Rattle.ieee.specs.Numbers.{null}
 use Rattle.ieee.specs.Root.{root}
 
-
 -- acc and then, from left to right, the square of each entry
 unfoldable pub squares_from : Format → Float → List Float → Float
 squares_from f acc [] = acc

@@ -1,4 +1,6 @@
 // The first word of a line.
+#![tactic(auto)]
+
 ghost use Rattle.std.specs.Prelude.{◌≡◌};
 ghost use Rattle.keywords.specs.Keywords.{keyword_of, start_of};
 

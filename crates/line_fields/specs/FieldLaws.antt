@@ -1,6 +1,6 @@
 -- Laws for the words that are left of a line, and for its fields. Assumes nothing.
-use Rattle.std.specs.Prelude.{◌≡◌, refl, Bool, true, false, cond, ◌⊎◌, ℕ, zero, suc, ◌+◌, ◌^◌, ◌≤◌, ◌<◌, leb, eqb, drop, get_or}
-use Rattle.std.proofs.Common.{sym, ◌∙◌, subst, inl, inr, arith, add-one, length-drop, drop_of_length-le, drop-cons, drop-drop, le-leb, leb-true, leb-false, eq-eqb, ne_eqb, eqb-true}
+use Rattle.std.specs.Prelude.{◌≡◌, refl, Bool, true, false, cond, ◌⊎◌, ℕ, suc, ◌+◌, ◌≤◌, ◌<◌, leb, eqb, drop}
+use Rattle.std.proofs.Common.{sym, ◌∙◌, inl, inr, arith, add-one, length-drop, drop_of_length-le, drop-cons, drop-drop, le-leb, leb-true, leb-false, eq-eqb, ne_eqb}
 use Rattle.std.proofs.Math.Path.{ap}
 use mathlib.Core.List.{List, [], ◌∷◌}
 use Rattle.std.proofs.Math.Option.{Option, none, some}
@@ -8,7 +8,7 @@ use Rattle.std.proofs.Math.ListN.{length}
 use Rattle.std.proofs.lemmas.Bool.{lt-leb}
 use Rattle.words.specs.Splitting.{first_word, words_of}
 use Rattle.words.specs.Words.{behind, words_first, word_within}
-use Rattle.line_fields.specs.Fields.{Left, left_at, Field, Gives, found, field_by}
+use Rattle.line_fields.specs.Fields.{Left, left_at, Gives, found, field_by}
 
 -- ---- what is left from a place on
 pub left_within : (line : List ℕ) (at : ℕ) → at ≤ length line → left_at line at ≡ some (first_word (drop at line) ∷ behind (drop (length (first_word (drop at line))) (drop at line)))

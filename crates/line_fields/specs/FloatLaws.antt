@@ -1,16 +1,16 @@
 -- Laws for a loop that reads floats up to the line's end. Assumes nothing.
-use Rattle.std.specs.Prelude.{◌≡◌, refl, ◌⊎◌, ℕ, zero, suc, ◌+◌, ◌-◌, ◌≤◌, ◌<◌, set, Float}
+use Rattle.std.specs.Prelude.{◌≡◌, ◌⊎◌, ℕ, suc, ◌+◌, ◌-◌, ◌≤◌, ◌<◌, set, Float}
 use Rattle.std.proofs.Math.Path.{sym, ap, subst}
 use Rattle.std.proofs.Common.{◌∙◌, inl, inr, add-one, length-set}
-use mathlib.Core.List.{List, [], ◌∷◌, ◌++◌, append-nil, append_assoc}
-use Rattle.std.proofs.Math.Option.{Option, none, some}
+use mathlib.Core.List.{List, [], ◌∷◌, ◌++◌, append-nil}
+use Rattle.std.proofs.Math.Option.{none, some}
 use native.Mathlib.Omega.{arith}
 use Rattle.std.proofs.Math.ListN.{length, take, drop}
 use Rattle.std.proofs.Math.Seq.{take-suc-set, append_snoc}
 use Rattle.word_numbers.specs.Reading.{float_of}
 use Rattle.words.specs.Splitting.{first_word}
 use Rattle.words.specs.Words.{behind}
-use Rattle.line_fields.specs.Fields.{Left, left_at, Field, GivesFloats, cons_field, floats_field}
+use Rattle.line_fields.specs.Fields.{left_at, Field, GivesFloats, cons_field, floats_field}
 use Rattle.line_fields.specs.FieldLaws.{left_within, left_past, left_bad, left_next}
 
 -- k floats are read, and stand in out; what is left from a place on is still to be read

@@ -1,5 +1,7 @@
 // The fields of a line, read one behind the other. A place past the line's end by one says that nothing is left; BAD says that a word was
 // of another form.
+#![tactic(auto)]
+
 ghost use Rattle.std.specs.Prelude.{◌≡◌, Bool, eqb, suc, length};
 ghost use Rattle.line_fields.specs.Fields.{left_at, Gives, GivesFloats, whole_field, code_field, flag_field, float_field, tolerance_field, floats_field};
 

@@ -1,4 +1,6 @@
 // What is printed of several: floats, and a word with floats or a number behind it. Each call gives the place behind what it put.
+#![tactic(auto)]
+
 ghost use Rattle.std.specs.Prelude.{◌≡◌, ◌+◌, ◌*◌, ◌≤◌, length};
 ghost use Rattle.word_printing.specs.Printing.{floats_text, counted_text, point_text, written};
 

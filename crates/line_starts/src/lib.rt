@@ -1,4 +1,6 @@
 // What a line says as a command, and the floats behind the settings of a start.
+#![tactic(auto)]
+
 pub mod command;
 
 ghost use Rattle.std.specs.Prelude.{List, length, Float};

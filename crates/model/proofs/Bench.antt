@@ -10,7 +10,6 @@ use Rattle.model.specs.Bounds.{only_cost}
 use Rattle.model.proofs.Bounds.{at_most_more}
 use Rattle.model.proofs.Starts.{start_inner_at_most, start_inner_questions_at_most, start_one_outer_never_converged}
 use Rattle.model.specs.Refusals.{start_inner, unless, sizes_right, mappings_right, limit_right, tolerance_right, akkt_right, loop_numbers_right, xi_right, inner_refusal, loop_refusal, psi_refusal}
-
 use Rattle.model.specs.Bench.{Bench}
 
 -- ---- the proof

@@ -1,24 +1,21 @@
 -- How many questions a run asks at most, whatever is answered: document 01, "At most 14 + 22M COST, ..", "at most 4 questions", and the client's K × (35 + 56 × M) + 1. Assumes nothing.
 use Prim.Native.Nat.{ℕ, zero, suc, ◌+◌, ◌*◌, ◌≤◌}
-use Rattle.std.specs.Prelude.{◌≡◌, Bool, ◌&&◌, ◌||◌, cond, List, eqb, Float}
+use Rattle.std.specs.Prelude.{◌≡◌, Bool, ◌&&◌, cond, List, eqb, Float}
 use Rattle.std.proofs.Common.{ap, ◌∙◌, add-one}
 use Rattle.std.proofs.Math.Bool.{true, false}
 use native.Mathlib.Omega.{arith}
 use Rattle.std.proofs.Math.Dec.{eqb-suc-zero}
 use Rattle.std.specs.Float.{Format}
-use Rattle.std.specs.Float.Ieee.{lt, is_nan}
+use Rattle.std.specs.Float.Ieee.{lt}
 use Rattle.std.specs.Float.Ieee.Scale.{finite}
 use Rattle.model.specs.Constants.{max_lipschitz_constant, max_lipschitz_updates, max_linesearch_iterations}
 use Rattle.model.specs.Vectors.{all_finite}
-use Rattle.model.specs.Process.{handed, refused, failed, Process, ask, score, begin, stop, within, Question, Status, converged, not_converged_iterations, not_converged_out_of_time, Solve, Loop}
+use Rattle.model.specs.Process.{handed, refused, failed, Process, ask, score, begin, stop, within, Question, Status, converged, not_converged_iterations, not_converged_out_of_time, Solve}
 use Rattle.model.specs.State.{Settings, Iterate, State, counted}
 use Rattle.model.specs.Inner.{Next, ceiling, renewed, doubled, passes, entered, begun, finish, last_test, last_cost, onward, first_move, first_cost, first_gradient, first_project, tried_project, tried_gradient, tried_cost, trial, retry, search, directed, ask_direction, doubled_cost, doubled_project, doubling, half_cost, tested, step, standing, timed, laps, solve, start_cost, start_gradient, start_shifted, start_project}
-use Rattle.model.specs.Loop.{LoopSettings, LoopState, Found}
-use Rattle.model.specs.Loop as Outer
 use Rattle.model.specs.Psi.{Sizes}
 use Rattle.model.specs.Psi as Penalty
-
-use Rattle.model.specs.Bounds.{AtMost, Weights, all, move, moves, only_cost, only_direction, only_gradient, only_project, only_time, solve_bound, weigh, worst_case}
+use Rattle.model.specs.Bounds.{AtMost, Weights, all, move, moves, only_cost, only_direction, only_gradient, only_project, only_time, solve_bound, weigh}
 
 -- ---- laws
 

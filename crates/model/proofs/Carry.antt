@@ -14,7 +14,6 @@ use Rattle.model.specs.Scoring.{Seen, Latest, tracing, Traced}
 use Rattle.model.specs.Counts.{Tally, counting, Counted}
 use Rattle.model.specs.Least.{Scored}
 use Rattle.model.specs.Plans.{scoring, Ends}
-
 use Rattle.model.specs.Carry.{MarksRight, answer_of, end_of, moved_by, state_after, state_past, weight_asked}
 
 seven_not : {X : Type 0} → ◌≡◌ {A = ℕ} 7 0 → X

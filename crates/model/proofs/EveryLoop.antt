@@ -24,7 +24,6 @@ use Rattle.model.specs.Counts.{counting, Counted, LoopCount}
 use Rattle.model.specs.Plans.{scoring, Ends, Plan, akkt_at, ExitPassed, LoopPlan}
 use Rattle.model.specs.EverySolve.{Trail, watching, SolveEnd, no_trail}
 use Rattle.model.proofs.EverySolve.{solve_good}
-
 use Rattle.model.specs.EveryLoop.{LoopEnd}
 
 -- with n1 > 0 the penalty handed back is the iteration's

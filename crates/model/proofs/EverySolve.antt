@@ -25,7 +25,6 @@ use Rattle.model.specs.Counts.{Tally, counting, Counted, SolveCount}
 use Rattle.model.specs.Least.{Scored, Kept}
 use Rattle.model.proofs.Least.{kept_none, kept_more, kept_below, half_finite}
 use Rattle.model.specs.Plans.{scoring, Ends, SolvePlan}
-
 use Rattle.model.specs.EverySolve.{SolveEnd, Trail, no_trail, watching}
 
 -- the test that ends a solve says that the norm is below the tolerance

@@ -17,7 +17,6 @@ use Rattle.ieee.proofs.Sums.{norm_finite}
 use Rattle.model.specs.Vectors.{minus}
 use Rattle.model.proofs.Facts.{true_false}
 use Rattle.model.specs.State.{Best, no_best, keep}
-
 use Rattle.model.specs.Least.{All, Chosen, Kept, Scored, earliest, zeros}
 
 -- ---- lists

@@ -5,7 +5,7 @@ use native.Mathlib.Omega.{arith}
 use Rattle.std.specs.Float.{Format}
 use Rattle.std.specs.Float.Ieee.{is_nan}
 use Rattle.model.specs.Process.{Status, converged, not_converged_iterations, not_converged_out_of_time, Loop}
-use Rattle.model.specs.Inner.{timed, solve}
+use Rattle.model.specs.Inner.{solve}
 use Rattle.model.specs.Loop.{LoopSettings, LoopState, Found}
 use Rattle.model.specs.Loop as Outer
 use Rattle.model.specs.Bounds.{AtMost, worst_case}

@@ -2,7 +2,6 @@
 use Rattle.std.specs.Prelude.{◌≡◌, refl, Bool, true, false, cond}
 use Rattle.std.proofs.Common.{subst}
 use Rattle.model.specs.Process.{handed, refused, failed, Process, ask, score, begin, stop, within}
-
 use Rattle.model.specs.Paths.{Along, Shows, Watch, both, through}
 
 -- the other watch, and an end that follows

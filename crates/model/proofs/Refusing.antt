@@ -17,7 +17,6 @@ use Rattle.model.specs.Psi.{Sizes}
 use Rattle.model.specs.Psi as Penalty
 use Rattle.model.specs.Refusals.{Reply, wanted, answer_refusal, accept, remains}
 use Rattle.model.proofs.Carry.{accepted}
-
 use Rattle.model.specs.Refusing.{Among, Awaits, Refuses}
 
 -- ---- laws

@@ -8,7 +8,6 @@ use Rattle.model.specs.Loop.{LoopSettings}
 use Rattle.model.specs.Psi.{Sizes}
 use Rattle.model.specs.Refusals.{unless, inner_refusal, loop_refusal, psi_refusal, Reply, wanted, answer_refusal, remains}
 use Rattle.model.proofs.Tests.{above, fails, passed, among}
-
 use Rattle.model.specs.Table.{AnswerRows, InnerRows, LoopRows, Over, PsiRows, answer_tests, inner_tests, loop_tests, psi_tests}
 
 -- at every start

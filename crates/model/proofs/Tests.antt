@@ -3,7 +3,6 @@ use Rattle.std.specs.Prelude.{ℕ, suc, ◌≤◌, ◌<◌, ◌≡◌, refl, ◌
 use Rattle.std.proofs.Common.{sym, inl, inr, true≢false, arith, eqb→eq, ltb→lt}
 use Rattle.std.specs.Float.Ieee.Fits.{eq→eqb, and_l, and_r}
 use Rattle.model.specs.Refusals.{unless}
-
 use Rattle.model.specs.Tests.{Among, Fails, Passed, Test, first, rising, test}
 
 -- no number that comes is one of those up to `low`

@@ -13,7 +13,6 @@ use Rattle.model.specs.Bounds.{AtMost, weigh, only_cost}
 use Rattle.model.specs.Plans.{Ends}
 use Rattle.model.specs.Refusals.{start_inner, start_loop, mappings_right, limit_right, tolerance_right, akkt_right, loop_numbers_right, xi_right, inner_refusal, loop_refusal, psi_refusal}
 
-
 -- a row for each piece
 pub record Bench : Type 0 where
   -- roots, by the bits of binary64: of 4, of 2, of 2^-1074, of 0x7FEFFFFFFFFFFFFF, of -0

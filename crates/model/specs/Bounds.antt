@@ -3,8 +3,6 @@ use Prim.Native.Nat.{ℕ, ◌+◌, ◌*◌, ◌≤◌}
 use Rattle.std.specs.Prelude.{Bool}
 use Rattle.std.proofs.Math.Bool.{true, false}
 use Rattle.model.specs.Process.{Answer, Process, ask, score, begin, stop, Question}
-use Rattle.model.specs.Inner.{step, solve}
-
 
 -- whatever is answered, the questions asked weigh at most b
 abbrev pub AtMost : {Q H : Type 0} → (Q → ℕ) → Process Q H → ℕ → Type 0

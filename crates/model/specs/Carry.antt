@@ -3,9 +3,7 @@ use Rattle.std.specs.Prelude.{ℕ, true, false, List, Float}
 use Rattle.std.proofs.Math.Option.{Option, none, some}
 use Rattle.model.specs.Process.{Kind, Answer, End, Process, ask, score, begin, stop}
 use Rattle.model.specs.Refusals.{Reply, number, vector, yes, no, failure, as_number, as_vector, as_decision}
-use Rattle.model.specs.Bounds.{AtMost}
-use Rattle.model.specs.Paths.{Watch, Along}
-
+use Rattle.model.specs.Paths.{Watch}
 
 -- ---- an accepted answer
 

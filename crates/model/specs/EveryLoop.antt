@@ -3,11 +3,10 @@ use Prim.Native.Nat.{◌≤◌}
 use Rattle.std.specs.Prelude.{◌≡◌}
 use Rattle.std.specs.Float.{Format}
 use Rattle.model.specs.Process.{converged, LoopHanded}
-use Rattle.model.specs.Loop.{LoopSettings, loop}
+use Rattle.model.specs.Loop.{LoopSettings}
 use Rattle.model.specs.Counts.{LoopCount}
 use Rattle.model.specs.Plans.{ExitPassed, LoopPlan}
 use Rattle.model.specs.EverySolve.{Trail}
-
 
 -- what is known at the end of the loop; G is what the plan asks of the start
 pub record LoopEnd (f : Format) (s : LoopSettings) (G : Type 0) (x : Trail) (h : LoopHanded) : Type 0 where

@@ -4,13 +4,11 @@ use Rattle.std.specs.Prelude.{◌≡◌, List, []}
 use Rattle.std.specs.Float.{Format}
 use Rattle.model.specs.Process.{Handed}
 use Rattle.model.specs.State.{Settings}
-use Rattle.model.specs.Inner.{solve}
 use Rattle.model.specs.Paths.{Watch, both}
 use Rattle.model.specs.Scoring.{Seen, Latest, nothing_yet, tracing}
 use Rattle.model.specs.Counts.{Tally, counting}
 use Rattle.model.specs.Least.{Scored}
 use Rattle.model.specs.Plans.{scoring, SolvePlan}
-
 
 -- ---- all three watches at once
 

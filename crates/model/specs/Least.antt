@@ -6,9 +6,8 @@ use Rattle.std.specs.Float.Ieee.{lt, is_nan}
 use Rattle.std.specs.Float.Ieee.Scale.{finite}
 use Rattle.ieee.specs.Numbers.{null}
 use Rattle.ieee.specs.Order.{upward}
-use Rattle.ieee.specs.Sums.{AllFinite, norm}
+use Rattle.ieee.specs.Sums.{AllFinite}
 use Rattle.model.specs.State.{Best}
-
 
 -- ---- the statements
 

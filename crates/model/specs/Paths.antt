@@ -2,7 +2,6 @@
 use Rattle.std.specs.Prelude.{◌≡◌, List, Float, length}
 use Rattle.model.specs.Process.{Kind, number, vector, direction, decision, Answer, End, handed, refused, failed, Process, ask, score, begin, stop}
 
-
 -- an answer has as many places as were asked
 abbrev pub RightSize : (k : Kind) → Answer k → Type 0
 RightSize number x = Unit {0}

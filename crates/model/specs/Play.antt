@@ -1,7 +1,5 @@
 -- A run played on the definitions: what it says after its start and after each answer. Definitions only.
-use Rattle.std.specs.Prelude.{ℕ, zero, suc, Bool, true, false, List, [], ◌∷◌, Float, length}
-use Rattle.std.proofs.Math.Option.{Option, none, some}
-use Rattle.std.specs.Float.{Format}
+use Rattle.std.specs.Prelude.{ℕ, zero, suc, true, List, [], ◌∷◌, Float, length}
 use Rattle.model.specs.Process.{End, Process, ask, score, begin, stop}
 use Rattle.model.specs.Refusals.{Reply, wanted, answer_refusal, accept, remains}
 

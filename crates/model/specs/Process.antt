@@ -1,5 +1,5 @@
 -- What a run asks, where it scores, how it ends: a run as a process over its questions Q and what it hands back, H. Definitions only.
-use Rattle.std.specs.Prelude.{ℕ, Bool, List, [], Float}
+use Rattle.std.specs.Prelude.{ℕ, Bool, List, Float}
 
 -- What answers a question: a number; a vector of so many places; a direction, a vector for which no failure is taken; a yes or no.
 pub data Kind : Type 0 where

@@ -1,8 +1,8 @@
 -- The penalty functions psi and d_psi, with their two divisors. Definitions only.
-use Rattle.std.specs.Prelude.{ℕ, cond, List, [], ◌∷◌, eqb, Float}
+use Rattle.std.specs.Prelude.{ℕ, cond, List, eqb, Float}
 use Rattle.std.specs.Float.{Format}
 use Rattle.std.specs.Float.Ieee.{add, mul, div}
-use Rattle.ieee.specs.Numbers.{null, larger}
+use Rattle.ieee.specs.Numbers.{larger}
 use Rattle.ieee.specs.Sums.{squares}
 use Rattle.model.specs.Constants.{one, two}
 use Rattle.model.specs.Vectors.{minus, plus_times, plus_over}

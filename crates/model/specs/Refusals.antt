@@ -1,5 +1,5 @@
 -- The table: document 01, "Refused, by place", 1 to 5 at a start and 6 to 9 at an answer, and what each leaves. 10 to 18 are ends of the processes. Definitions only.
-use Rattle.std.specs.Prelude.{ℕ, zero, suc, ◌+◌, Bool, true, false, ◌&&◌, ◌||◌, not, cond, List, [], ◌∷◌, eqb, leb, ltb, Float, length}
+use Rattle.std.specs.Prelude.{ℕ, zero, suc, ◌+◌, Bool, true, false, ◌&&◌, not, cond, List, [], ◌∷◌, eqb, leb, ltb, Float, length}
 use Rattle.std.proofs.Math.Option.{Option, none, some}
 use Rattle.std.specs.Float.{Format}
 use Rattle.std.specs.Float.Ieee.{lt, le}

@@ -2,7 +2,6 @@
 use Prim.Native.Nat.{ℕ, ◌≤◌}
 use Rattle.model.specs.Process.{Answer, handed, refused, failed, Process, ask, score, begin, stop}
 
-
 -- each refusal at an end has a number of which P holds
 abbrev pub Refuses : {Q H : Type 0} → (ℕ → Type 0) → Process Q H → Type 0
 Refuses P (ask q k continue) = (a : Answer k) → Refuses P (continue a)

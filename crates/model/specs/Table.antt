@@ -9,7 +9,6 @@ use Rattle.model.specs.Psi.{Sizes}
 use Rattle.model.specs.Refusals.{sizes_right, mappings_right, limit_right, tolerance_right, akkt_right, loop_numbers_right, xi_right, inner_refusal, loop_refusal, psi_refusal, Reply, fits_kind, fits_length, answer_refusal}
 use Rattle.model.specs.Tests.{Test, test}
 
-
 -- ---- an inner start
 
 -- its conditions, in their order

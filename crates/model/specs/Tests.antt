@@ -2,7 +2,6 @@
 use Rattle.std.specs.Prelude.{ℕ, ◌≡◌, ◌⊎◌, Bool, true, false, ◌&&◌, cond, List, [], ◌∷◌, eqb, ltb}
 use Rattle.model.specs.Refusals.{unless}
 
-
 -- a test: its number, and whether it passed
 pub data Test : Type 0 where
   test : ℕ → Bool → Test

@@ -1,1 +1,3 @@
+#![tactic(auto)]
+
 // Document 01 as definitions and theorems: see specs/.

@@ -1,4 +1,6 @@
 // The whole part of a root, digit by digit.
+#![tactic(auto)]
+
 ghost use Rattle.std.specs.Prelude.{◌*◌, ◌/◌, ◌^◌, ◌≤◌, ◌<◌};
 ghost use Rattle.ieee.specs.Squares.{IsRoot};
 

@@ -1,4 +1,6 @@
 // A guess of a root by Newton's steps, which no proof relies on.
+#![tactic(auto)]
+
 ghost use Rattle.std.specs.Prelude.{◌*◌, ◌^◌, ◌≤◌, ◌<◌};
 
 // 2^52, the weight of the exponent's field

@@ -1,4 +1,6 @@
 // The exact test of a root: whether a whole number is the nearest to it.
+#![tactic(auto)]
+
 ghost use Rattle.std.specs.Prelude.{◌≡◌, true, false, ◌*◌, ◌^◌, ◌≤◌, ◌<◌};
 ghost use Rattle.ieee.specs.Squares.{IsNear};
 

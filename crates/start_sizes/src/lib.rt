@@ -1,4 +1,6 @@
 // What a start tests of its sizes.
+#![tactic(auto)]
+
 ghost use Rattle.std.specs.Prelude.{◌≡◌, ◌+◌, eqb};
 ghost use Rattle.model.specs.Refusals as R;
 

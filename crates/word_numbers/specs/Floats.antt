@@ -1,9 +1,8 @@
 -- NaN by its patterns. Assumes nothing.
-use Rattle.std.specs.Prelude.{◌≡◌, refl, Bool, true, false, not, ℕ, ◌*◌, ◌%◌, ◌<◌, T, eqb, ℤ, Float}
-use Rattle.std.proofs.Common.{sym, ap, ◌∙◌, subst, true≢false, lt→ltb, eq-eqb}
-use Rattle.std.specs.Bool.{beq}
+use Rattle.std.specs.Prelude.{◌≡◌, refl, Bool, true, false, not, ℕ, ◌*◌, ◌%◌, ◌<◌, Float}
+use Rattle.std.proofs.Common.{sym, ap, ◌∙◌, true≢false, lt→ltb, eq-eqb}
 use Rattle.std.specs.Float.{nan, inf, fin, binary64}
-use Rattle.std.specs.Float.Ieee.{div, up, down, level, eq, ne, is_nan, nan_bits, of_bits, to_bits, ones, hid, top}
+use Rattle.std.specs.Float.Ieee.{div, up, down, level, eq, ne, is_nan, of_bits, to_bits, ones, hid, top}
 use Rattle.std.specs.Float.Ieee.Bits.{is_true, nan_bits_is, nan_bits_above}
 
 -- only nan differs from itself

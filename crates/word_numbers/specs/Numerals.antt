@@ -1,6 +1,6 @@
 -- Laws for loops that read a numeral byte by byte, and for the forms of a whole number. Assumes nothing.
-use Rattle.std.specs.Prelude.{◌≡◌, refl, Bool, true, false, cond, List, [], ◌∷◌, ℕ, zero, suc, ◌+◌, ◌-◌, ◌*◌, ◌^◌, ◌≤◌, ◌<◌, ltb, eqb, length, get_or, drop}
-use Rattle.std.proofs.Common.{sym, ◌∙◌, subst, lt_of_lt_of_le, le_trans, mul-le-mul_left, le-mul_of_pos_right, le-add_right, add-one, arith, pow_mono, pow-add, drop_of_length-le}
+use Rattle.std.specs.Prelude.{◌≡◌, refl, Bool, true, false, cond, List, [], ◌∷◌, ℕ, ◌+◌, ◌*◌, ◌^◌, ◌≤◌, ◌<◌, ltb, eqb, length, get_or, drop}
+use Rattle.std.proofs.Common.{sym, ◌∙◌, subst, lt_of_lt_of_le, le_trans, add-one, arith, pow_mono, pow-add, drop_of_length-le}
 use Rattle.std.proofs.Math.Path.{ap}
 use Rattle.std.proofs.Math.Option.{Option, none, some}
 use Rattle.std.proofs.Math.Arith.{digits_lt}

@@ -1,4 +1,6 @@
 // Whole numbers of words: what a byte counts as a digit, and what a word of decimal digits reads as.
+#![tactic(auto)]
+
 ghost use Rattle.std.specs.Prelude.{◌≡◌, ◌^◌};
 ghost use Rattle.word_numbers.specs.Digits.{digit as Digits·digit};
 ghost use Rattle.word_numbers.specs.Reading.{whole_of};

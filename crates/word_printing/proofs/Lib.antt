@@ -1,3 +1,3 @@
-pub mod Places
+pub mod PlaceLaws
 pub mod Written
 pub mod RoundTrip

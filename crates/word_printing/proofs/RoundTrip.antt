@@ -5,7 +5,7 @@ use Rattle.std.proofs.Math.Option.{Option, none, some}
 use Rattle.std.proofs.Math.Nat.{pow-zero}
 use Rattle.std.proofs.Math.ListN.{get_or-append}
 use Rattle.std.specs.Float.{nan, binary64}
-use Rattle.std.specs.Float.Ieee.{fits, of_bits, to_bits}
+use Rattle.std.specs.Float.Ieee.{fits, to_bits}
 use Rattle.std.specs.Float.Ieee.Bits.{of_bits-to_bits, to_bits-lt}
 use Rattle.word_numbers.specs.Digits.{digit, numeral, glyph, digits, places_in}
 use Rattle.word_numbers.specs.Reading.{hex_of, by_bits, float_of, under, alone, whole_of}

@@ -6,7 +6,6 @@ use Rattle.word_numbers.specs.Digits.{glyph, digits, places_in}
 use Rattle.std.specs.Float.{nan, binary64}
 use Rattle.std.specs.Float.Ieee.{to_bits}
 use Rattle.word_printing.specs.Printing.{float_word, floats_text, whole_word, written}
-
 use Rattle.word_printing.specs.Written.{Spelt}
 
 pub written_none : (out : List ℕ) (at : ℕ) → written out at [] ≡ out

@@ -2,7 +2,6 @@
 use Rattle.std.specs.Prelude.{◌≡◌, ℕ, suc, ◌+◌, ◌^◌, ◌<◌}
 use Rattle.word_numbers.specs.Digits.{places_in}
 
-
 -- k digits of n are counted, with those of rest still to come
 pub record Counted (n k rest : ℕ) : Type 0 where
   pub left : ℕ

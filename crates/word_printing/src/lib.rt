@@ -1,4 +1,6 @@
 // What is printed, into a lent buffer at a place: a word, a whole number. Each call gives the place behind what it put.
+#![tactic(auto)]
+
 ghost use Rattle.std.specs.Prelude.{◌≡◌, ◌+◌, ◌≤◌, ◌<◌, length};
 ghost use Rattle.word_numbers.specs.Digits.{places_in};
 ghost use Rattle.word_numbers.specs.Digits.{glyph as Digits·glyph};

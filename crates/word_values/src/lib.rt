@@ -1,4 +1,6 @@
 // What a word reads as: flags, a tolerance that may be missing.
+#![tactic(auto)]
+
 ghost use Rattle.std.specs.Prelude.{◌≡◌};
 ghost use Rattle.word_numbers.specs.Reading.{float_of, flag_of, is_dash};
 ghost use Rattle.word_values.specs.Values.{flag_is, tolerance_is};

@@ -1,4 +1,6 @@
 // The words of a line, one space apart.
+#![tactic(auto)]
+
 ghost use Rattle.std.specs.Prelude.{◌≡◌, ◌+◌, length, drop};
 ghost use Rattle.words.specs.Splitting.{first_word, is_word};
 

@@ -1,0 +1,22 @@
+// The points of a question of d_psi, the gradient of psi, for C, as the crate host_points has those of the inner solve.
+ghost use Rattle.factory.specs.FactoryBoard.{DPsiBoard, d_psi_run_of, d_psi_utd};
+ghost use Rattle.factory.specs.FactoryCalls.{Points};
+ghost use Rattle.factory.specs.FactoryRest.{d_psi_rest};
+ghost use Rattle.psi_image.specs.PsiImage.{d_psi_of};
+
+// The points of the question of a run; a product has a second: 0, or 6 where it has ended and 8 where a slice is not as long as its point.
+#[unsafe(no_mangle)]
+pub extern "C" fn pozkerrin_d_psi_points<'a>(
+    w: &[u32; 2],
+    k: &[usize; 3],
+    f: &[f64; 1],
+    first: &mut [f64],
+    second: &mut [f64],
+    u: &'a [f64; 64],
+    t: &'a [f64; 64],
+    d: &'a [f64; 64],
+) -> u32
+    ensures { (b : DPsiBoard) → Points (d_psi_rest (d_psi_run_of (d_psi_of w.now k.now f.now) (d_psi_utd u.now t.now d.now b))) first.old first.new second.old second.new result }
+{
+    host_d_psi_points::pozkerrin_d_psi_points(w, k, f, first, second, u, t, d)
+}

@@ -1,0 +1,23 @@
+// The start of d_psi, the gradient of psi, for C, as the crate host_start has that of the inner solve.
+ghost use Rattle.factory.specs.FactoryBoard.{DPsiBoard, d_psi_gave, d_psi_uy};
+ghost use Rattle.factory.specs.FactoryCalls.{DPsiStarts};
+ghost use Rattle.psi_image.specs.PsiImage.{d_psi_step_of};
+
+// A run that is begun at the lent slices, or its refusal.
+#[unsafe(no_mangle)]
+pub extern "C" fn pozkerrin_d_psi_start(
+    w: &mut [u32; 2],
+    k: &mut [usize; 3],
+    f: &mut [f64; 1],
+    n: usize,
+    n1: usize,
+    n2: usize,
+    at: &[f64],
+    xi: &[f64],
+    u: &mut [f64; 64],
+    y: &mut [f64; 64],
+) -> u32
+    ensures { (b : DPsiBoard) → DPsiStarts (record { n = n; n1 = n1; n2 = n2 }) at.now xi.now (d_psi_gave (d_psi_step_of result w.new k.new f.new) (d_psi_uy u.new y.new b)) }
+{
+    host_d_psi_start::pozkerrin_d_psi_start(w, k, f, n, n1, n2, at, xi, u, y)
+}

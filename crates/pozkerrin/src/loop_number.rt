@@ -1,0 +1,32 @@
+// A number for the question of a loop, for C: the quick way for COST, with the vectors that its answers need.
+ghost use Rattle.std.specs.Prelude.{[]};
+ghost use Rattle.alm_core.specs.Rest.{LoopBoard};
+ghost use Rattle.alm_calls.specs.LoopCalls.{Answers, run_of, gave};
+ghost use Rattle.alm_image.specs.AlmImage.{alm_of, step_of};
+ghost use Rattle.host_loop_number.specs.Eight.{eight};
+
+// The number x for the question of a run; a plan and the multipliers go into the lent slices.
+#[unsafe(no_mangle)]
+pub extern "C" fn pozkerrin_loop_number(
+    w: &mut [u32; 6],
+    k: &mut [usize; 6],
+    f: &mut [f64; 13],
+    lw: &mut [u32; 4],
+    lk: &mut [usize; 10],
+    lf: &mut [f64; 17],
+    x: f64,
+    plan: &mut [f64],
+    xi: &mut [f64],
+    u: &mut [f64; 64],
+    gradient: &[f64; 64],
+    step: &mut [f64; 64],
+    half: &[f64; 64],
+    fpr: &mut [f64; 64],
+    best: &[f64; 64],
+    y: &mut [f64; 64],
+    plus: &[f64; 64],
+) -> u32
+    ensures { (b : LoopBoard) → Answers (run_of (alm_of w.old k.old f.old lw.old lk.old lf.old) (eight u.old gradient.now step.old half.now fpr.old best.now y.old plus.now b)) (Reply.Number x) [] plan.old plan.new xi.old xi.new (gave (step_of result w.new k.new f.new lw.new lk.new lf.new) (eight u.new gradient.now step.new half.now fpr.new best.now y.new plus.now b)) }
+{
+    host_loop_number::pozkerrin_loop_number(w, k, f, lw, lk, lf, x, plan, xi, u, gradient, step, half, fpr, best, y, plus)
+}

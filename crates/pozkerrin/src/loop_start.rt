@@ -1,0 +1,39 @@
+// The start of a multiplier loop for C.
+ghost use Rattle.alm_core.specs.Rest.{LoopBoard};
+ghost use Rattle.alm_core.specs.Board.{set_u, set_y, set_y_plus};
+ghost use Rattle.alm_calls.specs.LoopCalls.{Begins};
+ghost use Rattle.alm_image.specs.AlmImage.{settings_given, step_of};
+
+// A run that is begun at the lent slices, or its refusal.
+#[unsafe(no_mangle)]
+pub extern "C" fn pozkerrin_loop_start(
+    w: &mut [u32; 6],
+    k: &mut [usize; 6],
+    f: &mut [f64; 13],
+    lw: &mut [u32; 4],
+    lk: &mut [usize; 10],
+    lf: &mut [f64; 17],
+    n: usize,
+    n1: usize,
+    n2: usize,
+    has_set_y: u32,
+    max_inner: usize,
+    max_outer: usize,
+    limited: u32,
+    tolerance: f64,
+    epsilon: f64,
+    delta: f64,
+    initial: f64,
+    penalty_factor: f64,
+    epsilon_factor: f64,
+    coefficient: f64,
+    at: &[f64],
+    xi: &[f64],
+    u: &mut [f64; 64],
+    y: &mut [f64; 64],
+    plus: &mut [f64; 64],
+) -> u32
+    ensures { (b : LoopBoard) → Begins (settings_given n n1 n2 has_set_y max_inner max_outer limited tolerance epsilon delta initial penalty_factor epsilon_factor coefficient) at.now xi.now (step_of result w.new k.new f.new lw.new lk.new lf.new) (set_u u.new (set_y y.new (set_y_plus plus.new b))) }
+{
+    host_loop_start::pozkerrin_loop_start(w, k, f, lw, lk, lf, n, n1, n2, has_set_y, max_inner, max_outer, limited, tolerance, epsilon, delta, initial, penalty_factor, epsilon_factor, coefficient, at, xi, u, y, plus)
+}

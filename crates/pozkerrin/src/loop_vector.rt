@@ -1,0 +1,33 @@
+// A vector for the question of a loop, for C: the quick way for GRADIENT, PROJECT and DIRECTION, F1, F2 and the projections on C and Y.
+ghost use Rattle.alm_calls.specs.LoopCalls.{Answers, before, after, run_of, gave};
+ghost use Rattle.alm_image.specs.AlmImage.{alm_of, step_of};
+
+// The vector v for the question of a run; a plan and the multipliers go into the lent slices.
+#[unsafe(no_mangle)]
+pub extern "C" fn pozkerrin_loop_vector(
+    w: &mut [u32; 6],
+    k: &mut [usize; 6],
+    f: &mut [f64; 13],
+    lw: &mut [u32; 4],
+    lk: &mut [usize; 10],
+    lf: &mut [f64; 17],
+    v: &[f64],
+    plan: &mut [f64],
+    xi: &mut [f64],
+    u: &mut [f64; 64],
+    candidate: &mut [f64; 64],
+    gradient: &mut [f64; 64],
+    previous: &mut [f64; 64],
+    step: &mut [f64; 64],
+    half: &mut [f64; 64],
+    fpr: &mut [f64; 64],
+    direction: &mut [f64; 64],
+    best: &mut [f64; 64],
+    y: &mut [f64; 64],
+    plus: &mut [f64; 64],
+    f1: &mut [f64; 64],
+) -> u32
+    ensures { Answers (run_of (alm_of w.old k.old f.old lw.old lk.old lf.old) (before u candidate gradient previous step half fpr direction best y plus f1)) Reply.Vector v.now plan.old plan.new xi.old xi.new (gave (step_of result w.new k.new f.new lw.new lk.new lf.new) (after u candidate gradient previous step half fpr direction best y plus f1)) }
+{
+    host_loop_vector::pozkerrin_loop_vector(w, k, f, lw, lk, lf, v, plan, xi, u, candidate, gradient, previous, step, half, fpr, direction, best, y, plus, f1)
+}

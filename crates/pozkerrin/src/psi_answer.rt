@@ -1,0 +1,24 @@
+// An answer to psi, the penalty function, for C, as the crate host has it for the inner solve.
+ghost use Rattle.factory.specs.FactoryBoard.{PsiBoard, psi_run_of, psi_gave, psi_ytw};
+ghost use Rattle.factory.specs.FactoryCalls.{PsiAnswers};
+ghost use Rattle.psi_image.specs.PsiImage.{psi_of, psi_step_of};
+ghost use Rattle.psi_kinds.specs.PsiKinds.{reply_of};
+
+// An answer to the question of a run. A kind of none is answered as a no, which psi never takes: 6 where the run has ended, else 7.
+#[unsafe(no_mangle)]
+pub extern "C" fn pozkerrin_psi_answer(
+    w: &mut [u32; 2],
+    k: &mut [usize; 3],
+    f: &mut [f64; 3],
+    kind: u32,
+    x: f64,
+    code: u32,
+    v: &[f64],
+    y: &[f64; 64],
+    t: &mut [f64; 64],
+    work: &mut [f64; 64],
+) -> u32
+    ensures { (b : PsiBoard) → PsiAnswers (psi_run_of (psi_of w.old k.old f.old) (psi_ytw y.now t.old work.old b)) (reply_of kind x code) v.now (psi_gave (psi_step_of result w.new k.new f.new) (psi_ytw y.now t.new work.new b)) }
+{
+    host_psi::pozkerrin_psi_answer(w, k, f, kind, x, code, v, y, t, work)
+}

@@ -1,0 +1,21 @@
+// The point of a question of psi, the penalty function, for C, as the crate host_points has those of the inner solve.
+ghost use Rattle.factory.specs.FactoryBoard.{PsiBoard, psi_run_of, psi_ut};
+ghost use Rattle.factory.specs.FactoryCalls.{Points};
+ghost use Rattle.factory.specs.FactoryRest.{psi_rest};
+ghost use Rattle.psi_image.specs.PsiImage.{psi_of};
+
+// The point of the question of a run; no question has a second: 0, or 6 where it has ended and 8 where a slice is not as long.
+#[unsafe(no_mangle)]
+pub extern "C" fn pozkerrin_psi_points<'a>(
+    w: &[u32; 2],
+    k: &[usize; 3],
+    f: &[f64; 3],
+    first: &mut [f64],
+    second: &mut [f64],
+    u: &'a [f64; 64],
+    t: &'a [f64; 64],
+) -> u32
+    ensures { (b : PsiBoard) → Points (psi_rest (psi_run_of (psi_of w.now k.now f.now) (psi_ut u.now t.now b))) first.old first.new second.old second.new result }
+{
+    host_psi_points::pozkerrin_psi_points(w, k, f, first, second, u, t)
+}

@@ -1,0 +1,23 @@
+// The start of psi, the penalty function, for C, as the crate host_start has that of the inner solve.
+ghost use Rattle.factory.specs.FactoryBoard.{PsiBoard, psi_gave, psi_uy};
+ghost use Rattle.factory.specs.FactoryCalls.{PsiStarts};
+ghost use Rattle.psi_image.specs.PsiImage.{psi_step_of};
+
+// A run that is begun at the lent slices, or its refusal.
+#[unsafe(no_mangle)]
+pub extern "C" fn pozkerrin_psi_start(
+    w: &mut [u32; 2],
+    k: &mut [usize; 3],
+    f: &mut [f64; 3],
+    n: usize,
+    n1: usize,
+    n2: usize,
+    at: &[f64],
+    xi: &[f64],
+    u: &mut [f64; 64],
+    y: &mut [f64; 64],
+) -> u32
+    ensures { (b : PsiBoard) → PsiStarts (record { n = n; n1 = n1; n2 = n2 }) at.now xi.now (psi_gave (psi_step_of result w.new k.new f.new) (psi_uy u.new y.new b)) }
+{
+    host_psi_start::pozkerrin_psi_start(w, k, f, n, n1, n2, at, xi, u, y)
+}
