@@ -1,4 +1,6 @@
 // The lines that answer, and those that lend and show.
+#![tactic(auto)]
+
 ghost use Rattle.std.specs.Prelude.{List, ℕ, length, Float};
 ghost use Rattle.line_fields.specs.Fields.{left_at};
 ghost use Rattle.line_starts.specs.Lines.{Says, plain, closed, number_line, vector_line, failure_line, lend_line};

@@ -1,12 +1,12 @@
 -- What a line says: TRANSCRIPT.md, "Calls that start a run" and "Calls that answer". Definitions only.
-use Rattle.std.specs.Prelude.{ℕ, ◌≤◌, ◌≡◌, Bool, true, false, cond, List, [], ◌∷◌, ltb, eqb, length, take, Float}
-use Rattle.std.proofs.Math.Option.{Option, none, some}
+use Rattle.std.specs.Prelude.{ℕ, ◌≤◌, ◌≡◌, cond, List, [], ◌∷◌, ltb, eqb, length, take, Float}
+use Rattle.std.proofs.Math.Option.{none, some}
 use Rattle.words.specs.Splitting.{words_of}
 use Rattle.keywords.specs.declared.Keyword.{Keyword}
 use Rattle.line_starts.specs.declared.command.Command.{Command}
 use Rattle.line_starts.specs.declared.command.Given.{Given}
 use Rattle.line_starts.specs.declared.command.Said.{Said}
-use Rattle.line_fields.specs.Fields.{Left, Field, whole_field, code_field, flag_field, float_field, tolerance_field, floats_field}
+use Rattle.line_fields.specs.Fields.{Left, whole_field, code_field, flag_field, float_field, tolerance_field, floats_field}
 use Rattle.keywords.specs.Keywords.{keyword_of}
 
 -- a command, with the floats behind it: u or the vector, and xi

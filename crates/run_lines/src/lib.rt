@@ -1,4 +1,6 @@
 // The lines that start a run.
+#![tactic(auto)]
+
 ghost use Rattle.std.specs.Prelude.{List, length, Float};
 ghost use Rattle.line_fields.specs.Fields.{left_at};
 ghost use Rattle.line_starts.specs.Lines.{Says, inner_line, loop_line, psi_line, d_psi_line};

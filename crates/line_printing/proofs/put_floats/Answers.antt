@@ -15,7 +15,7 @@ pub put_float-o-requires : goal.put_float-o-requires
 put_float-o-requires c = simp length-set (omega arith)
 
 pub loop-i-preserved : goal.loop-i-preserved
-loop-i-preserved c = (omega arith, omega (arith, c.put_float-o.ensures.0), c.put_float-o.auto.1.0 ∙ length-set c.loop-i.out c.loop-i.o 32 ∙ c.loop-i.invariant.2, floats_turn c.args.xs.now c.loop-i.i _ _ _ c.loop-i.o _ (omega arith) (omega arith) (omega arith) c.loop-i.invariant.3 c.put_float-o.ensures.1)
+loop-i-preserved c = (omega arith, omega (arith, c.put_float-o.ensures.0), c.put_float-o.auto.out ∙ length-set c.loop-i.out c.loop-i.o 32 ∙ c.loop-i.invariant.2, floats_turn c.args.xs.now c.loop-i.i _ _ _ c.loop-i.o _ (omega arith) (omega arith) (omega arith) c.loop-i.invariant.3 c.put_float-o.ensures.1)
 
 pub returns : goal.returns
 returns c = (omega arith, c.loop-i.invariant.3 ∙ ap (λ (l : List Float). written c.args.out.now c.args.at (floats_text l)) (take_all c.loop-i.i c.args.xs.now (omega arith)))

@@ -1,8 +1,8 @@
 -- `root_digits::digits` meets its contract. The invariant of its loop is `Taken` (`proofs/Turns.antt`), and the measure the turns that are left. Assumes nothing.
 use Rattle.std.proofs.Common.{◌≡◌, sym, subst, subst₂, ℕ, ◌+◌, ◌*◌, ◌%◌, ◌^◌, ◌<◌, arith}
-use mathlib.Core.Logic.{⊎_elim}
 use Rattle.root_digits.proofs.Turns.{Taken, bound, turn_with, turn_without, last}
 use Rattle.root_digits.proofs.digits.Goals as goal
+use Rattle.root_digits.proofs.digits.Goals.{then-t-rem, else-t-rem}
 
 small : (c : goal.In-loop-i) → c.loop-i.q < 2 ^ 54
 small c = bound c.loop-i.q c.loop-i.i c.loop-i.invariant.1.0 (omega arith)
@@ -31,10 +31,10 @@ loop-i-preserved c =
     let m = c.args.m in
     let l = c.loop-i-test.true in (
       omega arith,
-      ⊎_elim
-          (λ w. subst₂ (λ (q r : ℕ). Taken m q r (s.rest % 4503599627370496 * 4) (s.i + 1)) (sym w.1) (sym w.2) (turn_with m s.q s.rem s.rest s.i s.invariant.1 w.0.taken))
-          (λ w. subst₂ (λ (q r : ℕ). Taken m q r (s.rest % 4503599627370496 * 4) (s.i + 1)) (sym w.1) (sym w.2) (turn_without m s.q s.rem s.rest s.i s.invariant.1 w.0.left))
-          c.if-t-rem.branch,
+      elim c.if-t-rem.branch [
+        | then-t-rem w ↦ subst₂ (λ (q r : ℕ). Taken m q r (s.rest % 4503599627370496 * 4) (s.i + 1)) (sym w.q-is) (sym w.rem-is) (turn_with m s.q s.rem s.rest s.i s.invariant.1 w.if-t-rem.true)
+        | else-t-rem w ↦ subst₂ (λ (q r : ℕ). Taken m q r (s.rest % 4503599627370496 * 4) (s.i + 1)) (sym w.q-is) (sym w.rem-is) (turn_without m s.q s.rem s.rest s.i s.invariant.1 w.if-t-rem.false)
+      ],
     )
 
 pub returns : goal.returns
