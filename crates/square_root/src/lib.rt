@@ -1,5 +1,6 @@
 // The root of a number above zero, from its bit pattern: a guess by Newton's steps, which no proof relies on, and an exact test of it.
 #![tactic(auto)]
+
 ghost use Rattle.std.specs.Prelude.{◌≡◌, not, ◌*◌, ◌^◌, ◌≤◌, ◌<◌, T};
 ghost use Rattle.std.specs.Float.{binary64};
 ghost use Rattle.std.specs.Float.Ieee.{of_bits, nan_bits};

@@ -30,8 +30,7 @@ overflow_add-result-2 c = omega (arith, q-lt c)
 
 pub returns : goal.returns
 returns c =
-    let s = c.loop-m in
-    (
+    let s = c.loop-m in (
       no_nan_bits binary64 s.j c.nearest.result s.invariant.1 (q-lt c),
       finish binary64 c.args.b s.m s.j c.nearest.result c.requires.0 c.requires.1 c.loop-m-test.false s.invariant.0 s.invariant.1 s.invariant.2 c.nearest.ensures,
     )
