@@ -1,4 +1,6 @@
 // The AKKT residual: the sum of its squares, and its norm.
+#![tactic(auto)]
+
 ghost use Rattle.std.specs.Prelude.{◌≡◌, ◌≤◌};
 ghost use Rattle.std.specs.Float.{binary64};
 ghost use Rattle.ieee.specs.Sums.{squares, norm};

@@ -1,4 +1,6 @@
 // A half step of the line search, in one loop with the sums of its candidate.
+#![tactic(auto)]
+
 ghost use Rattle.std.specs.Prelude.{◌≡◌, ◌≤◌, length};
 ghost use Rattle.std.specs.Float.{binary64};
 ghost use Rattle.ieee.specs.Sums.{squares};

@@ -1,4 +1,6 @@
 // Norms and tests of vectors of floats: the first n places of an array of 64, or a whole slice. Sums run from place 0.
+#![tactic(auto)]
+
 ghost use Rattle.std.specs.Prelude.{◌≡◌, ◌≤◌, length};
 ghost use Rattle.std.specs.Float.{binary64};
 ghost use Rattle.ieee.specs.Sums.{squares, norm};

@@ -1,5 +1,6 @@
 // What Rattle lacks on `f64`: square root, absolute value, larger of two, and the test for a finite number.
 #![tactic(auto)]
+
 ghost use Rattle.std.specs.Prelude.{◌≡◌};
 ghost use Rattle.std.specs.Float.{binary64};
 ghost use Rattle.std.specs.Float.Ieee.Scale.{finite};

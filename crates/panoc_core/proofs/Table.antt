@@ -1,6 +1,6 @@
 -- The table's refusals by cases of what is wanted and what is answered. Assumes nothing.
 use Prim.Native.Nat.{ℕ}
-use mathlib.Core.Path.{◌≡◌, refl, sym, ap, ◌∙◌}
+use mathlib.Core.Path.{◌≡◌, sym, ap, ◌∙◌}
 use mathlib.Core.Bool.{Bool}
 use Rattle.model.specs.Refusals.{answer_refusal}
 use Rattle.panoc_core.specs.declared.panoc_cache.Reply.{Reply}

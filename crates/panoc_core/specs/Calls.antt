@@ -1,14 +1,12 @@
 -- What the public calls give, in terms of the process that is left of a run. Definitions only.
-use Rattle.std.specs.Prelude.{ℕ, zero, suc, ◌≡◌, cond, ◌&&◌, List, [], eqb, Float, length}
+use Rattle.std.specs.Prelude.{ℕ, suc, ◌≡◌, cond, ◌&&◌, List, [], eqb, Float, length}
 use Rattle.std.proofs.Math.Option.{Option, none, some}
 use Rattle.std.specs.Float.{binary64}
-use Rattle.matrix_operations.specs.Firsts.{firsts}
 use Rattle.model.specs.Process.{ask, score, begin, stop, Solve}
 use Rattle.model.specs.Process as M
 use Rattle.model.specs.Refusals.{wanted, answer_refusal, accept, remains, lent_after, plan_of, start_inner}
 use Rattle.panoc_core.specs.declared.panoc_cache.Settings.{Settings}
-use Rattle.panoc_core.specs.declared.panoc_cache.Outcome.{Outcome}
-use Rattle.panoc_core.specs.declared.panoc_cache.Outcome.TheVariants.{Asked, Ended, Refused, Failed}
+use Rattle.panoc_core.specs.declared.panoc_cache.Outcome.TheVariants.{Refused}
 use Rattle.panoc_core.specs.declared.panoc_cache.Reply.{Reply}
 use Rattle.panoc_core.specs.declared.panoc_cache.Run.{Run}
 use Rattle.panoc_core.specs.declared.panoc_cache.Answered.{Answered}

@@ -1,49 +1,43 @@
 -- What each way through a handler comes to, over plain values. Assumes nothing.
-use Prim.Native.Nat.{ℕ, zero, suc, ◌+◌, ◌-◌, ◌≤◌, ◌<◌}
-use Rattle.std.specs.Prelude.{◌≡◌, Bool, ◌&&◌, leb, eqb, ltb, length, replicate}
+use Prim.Native.Nat.{ℕ, zero, suc, ◌+◌, ◌-◌, ◌≤◌}
+use Rattle.std.specs.Prelude.{◌≡◌, Bool, ◌&&◌, leb, eqb, length, replicate}
 use Rattle.std.proofs.Math.Path.{refl, sym, ap, subst, fun_ext}
-use Rattle.std.proofs.Common.{◌∙◌, arith, lt-ltb, le-ltb, le-leb, leb-true, eq-eqb, ne_eqb, eqb-true}
+use Rattle.std.proofs.Common.{◌∙◌, arith, le-leb, leb-true, eq-eqb, ne_eqb}
 use Rattle.std.proofs.Math.Bool.{true, false, cond}
 use mathlib.Core.List.{List, []}
-use Rattle.std.proofs.Math.Option.{Option, none, some}
-use Rattle.std.proofs.lemmas.Bool.{lt-leb}
 use Rattle.std.specs.Float.Ieee.{Float, lt, binary64, add, div, sub, mul, of_bits}
 use Rattle.std.specs.Float.{inf}
 use Rattle.std.specs.Float.Ieee.Scale.{finite}
 use Rattle.ieee.specs.Numbers.{null, absolute, larger}
-use Rattle.ieee.specs.Sums.{norm, squares}
+use Rattle.ieee.specs.Sums.{norm}
 use Rattle.matrix_operations.specs.Firsts.{firsts}
-use Rattle.matrix_operations.specs.Laws.{firsts_replicate, length_firsts}
+use Rattle.matrix_operations.specs.Laws.{firsts_replicate}
 use Rattle.model.specs.Constants.{one, two, max_lipschitz_constant}
 use Rattle.model.proofs.Literals.{gamma_l_coeff_bits, min_l_estimate_bits, lipschitz_update_epsilon_bits, max_lipschitz_constant_bits, half_bits, one_bits, two_bits, four_bits}
 use Rattle.model.specs.Vectors.{all_finite, minus, less_times, plus_times, dot, shifts, shifted, estimate}
-use Rattle.model.specs.Process.{Kind, Answer, End, handed, refused, failed, Process, ask, score, begin, stop, Handed}
+use Rattle.model.specs.Process.{Kind, Answer, refused, ask, score, stop}
 use Rattle.model.specs.Process as M
 use Rattle.model.specs.State as S
 use Rattle.model.specs.State.{Iterate, State, keep, no_best}
 use Rattle.model.specs.Inner as I
-use Rattle.model.specs.Refusals as R
-use Rattle.model.specs.Refusals.{accept, replied, go_on, as_number, as_vector, as_decision, remains, lent_after, lent_at, plan_of, wanted, answer_refusal}
+use Rattle.model.specs.Refusals.{accept, replied, go_on, as_number, as_vector, remains, lent_after, lent_at, plan_of}
 use Rattle.panoc_core.specs.declared.panoc_cache.Phase.{Phase}
 use Rattle.panoc_core.specs.declared.panoc_cache.Phase.TheVariants as P
 use Rattle.panoc_core.specs.declared.panoc_cache.Question.{Question}
 use Rattle.panoc_core.specs.declared.panoc_cache.Question.TheVariants as Q
 use Rattle.panoc_core.specs.declared.panoc_cache.ExitStatus.{ExitStatus}
 use Rattle.panoc_core.specs.declared.panoc_cache.ExitStatus.TheVariants as E
-use Rattle.panoc_core.specs.declared.panoc_cache.Outcome.{Outcome}
 use Rattle.panoc_core.specs.declared.panoc_cache.Outcome.TheVariants as O
-use Rattle.panoc_core.specs.declared.panoc_cache.Reply.{Reply}
-use Rattle.panoc_core.specs.declared.panoc_cache.Reply.TheVariants.{Number, Vector, Yes, No, Failure}
+use Rattle.panoc_core.specs.declared.panoc_cache.Reply.TheVariants.{Number, Vector}
 use Rattle.panoc_core.specs.declared.panoc_cache.AkktTolerance.{AkktTolerance}
 use Rattle.panoc_core.specs.declared.panoc_cache.AkktTolerance.TheVariants as A
 use Rattle.panoc_core.specs.declared.panoc_cache.Settings.{Settings}
-use Rattle.panoc_core.specs.declared.panoc_cache.Numbers.{Numbers}
 use Rattle.panoc_core.specs.declared.panoc_cache.Solve.{Solve}
 use Rattle.panoc_core.specs.declared.panoc_cache.Stepped.{Stepped}
 use Rattle.panoc_core.specs.declared.panoc_cache.Run.{Run}
-use Rattle.panoc_core.specs.Values.{akkt_of, settings_of, status_of, exit_status_of, reply_of, question_of, said, ended}
-use Rattle.panoc_core.specs.Rest.{rest, resume, sound, iterate_of, state_of, opening_of, next_of, retry_of, doubling_of, doubling_at, half_cost_at}
-use Rattle.panoc_core.specs.Board.{Board, run_of, given, Comes, Takes, Sound, Ceiling, Envelope, best_at, set_of, end_of, next_at, iterate_at, state_at, with_numbers, at_phase, with_status, stepped, set_u, set_plus, set_gradient, set_step, set_half, set_fpr, set_direction, set_best, set_previous, six, seven, nine}
+use Rattle.panoc_core.specs.Values.{akkt_of, status_of, exit_status_of, question_of, said}
+use Rattle.panoc_core.specs.Rest.{rest, resume, sound, retry_of, doubling_at, half_cost_at}
+use Rattle.panoc_core.specs.Board.{Board, run_of, given, Comes, Takes, Sound, Ceiling, Envelope, best_at, set_of, end_of, next_at, iterate_at, state_at, with_numbers, at_phase, with_status, stepped, set_u, set_plus, set_gradient, set_step, set_half, set_fpr, set_direction, set_best, set_previous, six}
 
 -- ---- both of two tests
 pub and_left : (a b : Bool) → (a && b) ≡ true → a ≡ true

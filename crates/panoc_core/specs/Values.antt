@@ -1,7 +1,7 @@
 -- What the enums and records of the code stand for in document 01's terms, and the other way round. Definitions only.
-use Rattle.std.specs.Prelude.{ℕ, Bool, true, false, List, [], Float}
+use Rattle.std.specs.Prelude.{Bool, true, false, List, [], Float}
 use Rattle.std.proofs.Math.Option.{Option, none, some}
-use Rattle.model.specs.Process.{Kind, End, handed, refused, failed, Process, ask, score, begin, stop, Handed}
+use Rattle.model.specs.Process.{Kind, End, handed, refused, failed, ask, score, begin, stop, Handed}
 use Rattle.model.specs.Process as M
 use Rattle.model.specs.Refusals as R
 use Rattle.model.specs.State as S

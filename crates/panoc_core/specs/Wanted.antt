@@ -1,39 +1,30 @@
 -- What the dispatchers and the public calls need: what is wanted at each phase, what an accepted answer is, what a call gives. Assumes nothing.
-use Rattle.std.specs.Prelude.{ℕ, zero, suc, ◌≤◌, ◌<◌, ◌-◌, ◌≡◌, refl, Bool, true, false, cond, ◌&&◌, List, [], ◌∷◌, leb, eqb, ltb, Float, length}
-use Rattle.std.proofs.Common.{sym, ap, ◌∙◌, subst, arith, le-leb, lt-ltb, le-ltb, leb-true, eq-eqb, ne_eqb, eqb-true}
+use Rattle.std.specs.Prelude.{ℕ, ◌≤◌, ◌<◌, ◌-◌, ◌≡◌, refl, Bool, true, false, cond, ◌&&◌, List, [], leb, eqb, Float, length}
+use Rattle.std.proofs.Common.{sym, ap, ◌∙◌, subst, arith, le-leb, eqb-true}
 use Rattle.std.proofs.Math.Option.{Option, none, some}
 use Rattle.std.proofs.lemmas.Bool.{lt-leb}
 use Rattle.std.specs.Float.{binary64}
-use Rattle.std.specs.Float.Ieee.{lt, of_bits}
-use Rattle.std.specs.Float.Ieee.Scale.{finite}
-use Rattle.ieee.specs.Numbers.{null}
-use Rattle.ieee.proofs.Special.{zero_bits}
 use Rattle.matrix_operations.specs.Firsts.{firsts}
-use Rattle.matrix_operations.specs.Laws.{length_firsts}
-use Rattle.model.specs.Process.{Kind, End, refused, failed, Process, ask, score, begin, stop}
+use Rattle.model.specs.Process.{Kind, refused, failed, ask, score, begin, stop}
 use Rattle.model.specs.Process as M
 use Rattle.model.specs.Inner as I
 use Rattle.model.specs.Refusals as R
-use Rattle.model.specs.Refusals.{answer_refusal, fits_kind, fits_length, fits_places, as_number, as_vector, as_decision, may_fail, wanted, accept, replied, go_on, remains, lent_after, lent_at, plan_of, inner_refusal, unless, sizes_right, limit_right, tolerance_right, akkt_right, start_inner, or_refused}
+use Rattle.model.specs.Refusals.{answer_refusal, fits_kind, fits_length, fits_places, as_number, as_vector, as_decision, wanted, accept, replied, go_on, remains, lent_after, lent_at}
 use Rattle.panoc_core.specs.declared.panoc_cache.Phase.{Phase}
 use Rattle.panoc_core.specs.declared.panoc_cache.Phase.TheVariants as P
-use Rattle.panoc_core.specs.declared.panoc_cache.Question.TheVariants as Q
-use Rattle.panoc_core.specs.declared.panoc_cache.Outcome.{Outcome}
 use Rattle.panoc_core.specs.declared.panoc_cache.Outcome.TheVariants as O
 use Rattle.panoc_core.specs.declared.panoc_cache.Reply.{Reply}
-use Rattle.panoc_core.specs.declared.panoc_cache.Reply.TheVariants.{Number, Vector, Yes, No, Failure}
-use Rattle.panoc_core.specs.declared.panoc_cache.AkktTolerance.{AkktTolerance}
+use Rattle.panoc_core.specs.declared.panoc_cache.Reply.TheVariants.{Number, Vector, Failure}
 use Rattle.panoc_core.specs.declared.panoc_cache.AkktTolerance.TheVariants as A
 use Rattle.panoc_core.specs.declared.panoc_cache.Settings.{Settings}
 use Rattle.panoc_core.specs.declared.panoc_cache.Solve.{Solve}
 use Rattle.panoc_core.specs.declared.panoc_cache.Stepped.{Stepped}
 use Rattle.panoc_core.specs.declared.panoc_cache.Run.{Run}
 use Rattle.panoc_core.specs.declared.refusals.Wanted.{Wanted}
-use Rattle.panoc_core.specs.declared.refusals.Wanted.TheVariants as W
-use Rattle.panoc_core.specs.Values.{akkt_of, reply_of, kind_of, decided, said, settings_of, first_point, second_point, question_of}
+use Rattle.panoc_core.specs.Values.{reply_of, kind_of, decided, said, settings_of}
 use Rattle.panoc_core.specs.Rest.{rest, resume, sound}
-use Rattle.panoc_core.specs.Board.{Board, run_of, gave, given, Comes, Takes, Sound, set_of, end_of, next_at, iterate_at, at_phase, stepped, wanted_at, wanted_of, wants_vector, set_u, Begins, begun, waiting, first_places, second_places, first_at}
-use Rattle.panoc_core.specs.Laws.{rest_at, rest_sound, rest_over, sound_n, sound_made}
+use Rattle.panoc_core.specs.Board.{Board, run_of, given, Comes, Takes, Sound, set_of, next_at, iterate_at, stepped, wanted_at, wanted_of, wants_vector, begun}
+use Rattle.panoc_core.specs.Laws.{rest_at, rest_sound, rest_over, sound_made}
 
 -- ---- two kinds that differ
 abbrev code : Option Kind → ℕ

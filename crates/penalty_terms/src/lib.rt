@@ -1,4 +1,6 @@
 // The numbers of psi: what y is divided by, and a value with a penalty added.
+#![tactic(auto)]
+
 ghost use Rattle.std.specs.Prelude.{◌≡◌};
 ghost use Rattle.std.specs.Float.{binary64};
 ghost use Rattle.std.specs.Float.Ieee.{add, mul, div};

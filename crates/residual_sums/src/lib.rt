@@ -1,4 +1,6 @@
 // The residual of a half step, with its norm and its product.
+#![tactic(auto)]
+
 ghost use Rattle.std.specs.Prelude.{◌≡◌, ◌≤◌};
 ghost use Rattle.std.specs.Float.{binary64};
 ghost use Rattle.ieee.specs.Sums.{norm};

@@ -1,5 +1,6 @@
 // What a line of a script says: TRANSCRIPT.md, "Calls that start a run" and "Calls that answer".
 #![tactic(auto)]
+
 ghost use Rattle.std.specs.Prelude.{length};
 ghost use Rattle.line_starts.specs.Lines.{Says, meant};
 

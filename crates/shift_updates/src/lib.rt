@@ -1,4 +1,6 @@
 // u shifted, as the estimate of the Lipschitz constant asks.
+#![tactic(auto)]
+
 ghost use Rattle.std.specs.Prelude.{◌≡◌, ◌≤◌};
 ghost use Rattle.std.specs.Float.{binary64};
 ghost use Rattle.ieee.specs.Sums.{norm};

@@ -1,4 +1,6 @@
 // What a start tests of its limits, tolerances, factors and fractions.
+#![tactic(auto)]
+
 ghost use Rattle.std.specs.Prelude.{◌≡◌};
 ghost use Rattle.std.specs.Float.{binary64};
 ghost use Rattle.model.specs.Refusals as R;

@@ -1,4 +1,6 @@
 // A multiple of a vector, added to another through a `&mut`.
+#![tactic(auto)]
+
 ghost use Rattle.std.specs.Prelude.{◌≡◌, ◌≤◌};
 ghost use Rattle.std.specs.Float.{binary64};
 ghost use Rattle.model.specs.Vectors.{plus_times};

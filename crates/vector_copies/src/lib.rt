@@ -1,4 +1,6 @@
 // Vectors copied, into an array of 64 and out of one; zeros, and infinity.
+#![tactic(auto)]
+
 ghost use Rattle.std.specs.Prelude.{◌≡◌, false, ◌≤◌, length, replicate};
 ghost use Rattle.std.specs.Float.{inf};
 ghost use Rattle.ieee.specs.Numbers.{null};

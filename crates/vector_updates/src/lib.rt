@@ -1,4 +1,6 @@
 // Vectors worked out place by place of two others and a number, and written through a `&mut`.
+#![tactic(auto)]
+
 ghost use Rattle.std.specs.Prelude.{◌≡◌, ◌≤◌};
 ghost use Rattle.std.specs.Float.{binary64};
 ghost use Rattle.model.specs.Vectors.{less_times, plus_over};
