@@ -136,7 +136,7 @@ class Turner:
 
         out, at = [], 0
         for m in QUIET.finditer(text):
-            quoted = m[0] if m[0][0] == '"' else re.sub(r"`[^`\n]*`", lambda s: code(s[0]), m[0])
+            quoted = m[0] if m[0][0] == '"' else re.sub(r"`([^`\n]*)`", lambda s: f"`{code(s[1])}`", m[0])
             out += [code(text[at : m.start()]), quoted]
             at = m.end()
         return "".join(out + [code(text[at:])])
@@ -164,7 +164,7 @@ class Turner:
         return "".join(out + [self.comments(text[at:], table)])
 
     def comments(self, text, table):
-        spans = lambda m: re.sub(r"`[^`\n]*`", lambda s: self.words(s[0], table, table), m[0])
+        spans = lambda m: re.sub(r"`([^`\n]*)`", lambda s: f"`{self.words(s[1], table, table)}`", m[0])
         return re.sub(r"//[^\n]*", spans, text)
 
     def edit(self, text, where):
@@ -180,7 +180,8 @@ class Turner:
         return "\n".join(lines)
 
     def md(self, text, where):
-        return re.sub(r"`[^`\n]*`", lambda s: self.words(s[0], self.table, self.table) if "/" not in s[0] or ".antt" in s[0] else s[0], text)
+        spelt = lambda s: s if "/" in s and ".antt" not in s else self.words(s, self.table, self.table)
+        return re.sub(r"`([^`\n]*)`", lambda s: f"`{spelt(s[1])}`", text)
 
 
 def tight(line):

@@ -1,17 +1,15 @@
 -- The loop in place: its small part by value, and its vectors where they are lent. Definitions only.
-use Rattle.std.specs.Prelude.{ℕ, ◌+◌, ◌-◌, ◌*◌, ◌≤◌, ◌≡◌, Bool, true, false, not, ◌&&◌, ◌||◌, cond, List, [], eqb, Float}
-use Rattle.std.proofs.Math.Option.{Option, none, some}
+use Rattle.std.specs.Prelude.{◌+◌, ◌-◌, ◌*◌, ◌≤◌, ◌≡◌, Bool, true, not, ◌&&◌, ◌||◌, List, [], eqb, Float}
 use Rattle.std.specs.Float.{binary64}
 use Rattle.std.specs.Float.Ieee.{add, mul, le}
 use Rattle.model.specs.Constants.{epsilon}
 use Rattle.matrix_operations.specs.Firsts.{firsts}
-use Rattle.model.specs.Process.{Kind}
 use Rattle.model.specs.Process as M
 use Rattle.model.specs.Loop as L
 use Rattle.model.specs.Loop.{xi_of}
 use Rattle.model.specs.Refusals.{accept, remains, lent_after, loop_plan, loop_xi}
 use Rattle.panoc_core.specs.Values.{reply_of, status_of}
-use Rattle.panoc_core.specs.Board.{Board, Lent}
+use Rattle.panoc_core.specs.Board.{Board}
 use Rattle.panoc_core.specs.Board as Inner
 use Rattle.panoc_core.specs.declared.panoc_cache.Reply.{Reply}
 use Rattle.panoc_core.specs.declared.panoc_cache.ExitStatus.{ExitStatus}
@@ -22,14 +20,12 @@ use Rattle.panoc_core.specs.declared.panoc_cache.Outcome.TheVariants as O
 use Rattle.alm_core.specs.declared.alm_cache.AlmOptimizerStatus.{AlmOptimizerStatus}
 use Rattle.alm_core.specs.declared.alm_cache.Alm.{Alm}
 use Rattle.alm_core.specs.declared.alm_cache.AlmPhase.{AlmPhase}
-use Rattle.alm_core.specs.declared.alm_cache.AlmPhase.TheVariants as P
-use Rattle.alm_core.specs.declared.alm_cache.AlmNumbers.{AlmNumbers}
 use Rattle.alm_core.specs.declared.alm_cache.AlmSettings.{AlmSettings}
 use Rattle.alm_core.specs.declared.alm_cache.AlmStepped.{AlmStepped}
 use Rattle.alm_core.specs.declared.alm_cache.AlmOutcome.{AlmOutcome}
 use Rattle.alm_core.specs.declared.alm_cache.AlmOutcome.TheVariants.{Asked, Ended, Refused, Failed}
 use Rattle.alm_core.specs.Values.{settings_of, said}
-use Rattle.alm_core.specs.Rest.{LoopBoard, rest, sound, sized, counts, next_of, state_of, carried_of, found_of, found_y}
+use Rattle.alm_core.specs.Rest.{LoopBoard, rest, sound, sized, counts, next_of, carried_of, found_y}
 
 -- a run that a start made
 abbrev pub Sound : Alm → Type 0

@@ -1,13 +1,13 @@
 -- An inner solve that hands back its plan after an answer counts the steps of its run: at most 10,000. Assumes nothing.
-use Prim.Native.Nat.{ℕ, zero, suc, ◌-◌, ◌≤◌}
-use Rattle.std.specs.Prelude.{◌≡◌, refl, Bool, cond, ◌&&◌, List, [], eqb, Float, length}
-use Rattle.std.proofs.Common.{sym, ap, ◌∙◌, subst, arith}
+use Prim.Native.Nat.{ℕ, zero, suc, ◌≤◌}
+use Rattle.std.specs.Prelude.{◌≡◌, refl, Bool, cond, ◌&&◌, List, [], eqb, Float}
+use Rattle.std.proofs.Common.{arith}
 use Rattle.std.proofs.Math.Bool.{true, false}
 use Rattle.std.specs.Float.Ieee.{binary64, lt}
 use Rattle.std.specs.Float.Ieee.Scale.{finite}
-use Rattle.model.specs.Vectors.{all_finite, estimate}
+use Rattle.model.specs.Vectors.{all_finite}
 use Rattle.model.specs.Constants.{max_lipschitz_constant}
-use Rattle.model.specs.Process.{Kind, refused, ask, stop}
+use Rattle.model.specs.Process.{refused, stop}
 use Rattle.model.specs.Process as M
 use Rattle.model.specs.State as S
 use Rattle.model.specs.State.{Iterate, State}
@@ -15,10 +15,10 @@ use Rattle.model.specs.Inner as I
 use Rattle.model.specs.Inner.{Next}
 use Rattle.model.specs.Refusals as R
 use Rattle.model.specs.Refusals.{accept, replied, go_on, as_number, as_vector, as_decision}
-use Rattle.panoc_core.specs.Values.{said, settings_of, reply_of, status_of}
-use Rattle.panoc_core.specs.Rest.{rest, resume, sound, iterate_of, state_of, opening_of, next_of, retry_of, doubling_of, doubling_at, half_cost_at}
-use Rattle.panoc_core.specs.Board.{Board, run_of, Sound}
-use Rattle.panoc_core.specs.Laws.{rest_sound, sound_count}
+use Rattle.panoc_core.specs.Values.{said, settings_of, status_of}
+use Rattle.panoc_core.specs.Rest.{rest, resume, sound, iterate_of, opening_of, doubling_at, half_cost_at}
+use Rattle.panoc_core.specs.Board.{Board, run_of}
+use Rattle.panoc_core.specs.Laws.{sound_count}
 use Rattle.panoc_core.specs.declared.panoc_cache.Phase.{Phase}
 use Rattle.panoc_core.specs.declared.panoc_cache.Phase.TheVariants as P
 use Rattle.panoc_core.specs.declared.panoc_cache.Run.{Run}

@@ -1,10 +1,9 @@
 -- What each way through a handler of the loop comes to, over plain values. Assumes nothing.
-use Rattle.std.specs.Prelude.{ℕ, zero, suc, ◌+◌, ◌-◌, ◌*◌, ◌≤◌, ◌<◌, Bool, ◌&&◌, ◌||◌, leb, length}
+use Rattle.std.specs.Prelude.{ℕ, suc, ◌+◌, ◌-◌, ◌*◌, ◌≤◌, Bool, ◌&&◌, ◌||◌, leb, length}
 use Rattle.std.proofs.Math.Path.{◌≡◌, refl, sym, ap, subst}
 use Rattle.std.proofs.Common.{◌∙◌, arith}
 use Rattle.std.proofs.Math.Bool.{true, false, not, cond}
 use mathlib.Core.List.{List, []}
-use Rattle.std.proofs.Math.Option.{Option, none, some}
 use borrow.Author.Tests.{le-leb, leb-true, eq-eqb, ne_eqb, eqb-true}
 use Rattle.std.proofs.Math.Dec.{eqb}
 use Rattle.std.specs.Float.Ieee.{Float, binary64, add, mul, le, of_bits, is_nan, eq, ne, up, down}
@@ -16,23 +15,20 @@ use Rattle.matrix_operations.specs.Firsts.{firsts}
 use Rattle.model.specs.Constants.{epsilon}
 use Rattle.model.proofs.Literals.{epsilon_bits}
 use Rattle.model.specs.Vectors.{minus, plus_times, plus_over}
-use Rattle.model.specs.Process.{Kind, Answer, End, handed, refused, failed, Process, ask, score, begin, stop, within}
+use Rattle.model.specs.Process.{Kind, Answer, handed, refused, failed, ask, score, begin, stop, within}
 use Rattle.model.specs.Process as M
 use Rattle.model.specs.Inner as I
 use Rattle.model.specs.Loop as L
-use Rattle.model.specs.Loop.{LoopSettings, LoopState, Carried, Found, xi_of, with_multipliers, with_f2}
-use Rattle.model.specs.Refusals as R
+use Rattle.model.specs.Loop.{LoopSettings, LoopState, Found, xi_of, with_multipliers, with_f2}
 use Rattle.model.specs.Refusals.{accept, replied, go_on, as_number, as_vector, as_decision, remains, lent_after, lent_at, loop_plan, loop_xi, plan_of}
-use Rattle.panoc_core.specs.Values.{reply_of, status_of, exit_status_of, decided, question_of}
+use Rattle.panoc_core.specs.Values.{status_of, exit_status_of, decided, question_of}
 use Rattle.panoc_core.specs.Values as InnerValues
-use Rattle.panoc_core.specs.Rest as InnerRest
 use Rattle.panoc_core.specs.Board as InnerBoard
 use Rattle.panoc_core.specs.Laws.{and_left, and_right, taken, status_there, status_back}
 use Rattle.panoc_core.specs.Wanted.{begun_rest}
 use Rattle.panoc_core.specs.declared.panoc_cache.ExitStatus.{ExitStatus}
 use Rattle.panoc_core.specs.declared.panoc_cache.ExitStatus.TheVariants as E
-use Rattle.panoc_core.specs.declared.panoc_cache.Reply.{Reply}
-use Rattle.panoc_core.specs.declared.panoc_cache.Reply.TheVariants.{Number, Vector, Yes, No, Failure}
+use Rattle.panoc_core.specs.declared.panoc_cache.Reply.TheVariants.{Number, Vector}
 use Rattle.panoc_core.specs.declared.panoc_cache.Settings.{Settings}
 use Rattle.panoc_core.specs.declared.panoc_cache.AkktTolerance.TheVariants as A
 use Rattle.panoc_core.specs.declared.panoc_cache.Question.TheVariants as IQ
@@ -44,14 +40,13 @@ use Rattle.alm_core.specs.declared.alm_cache.Alm.{Alm}
 use Rattle.alm_core.specs.declared.alm_cache.AlmPhase.{AlmPhase}
 use Rattle.alm_core.specs.declared.alm_cache.AlmPhase.TheVariants as P
 use Rattle.alm_core.specs.declared.alm_cache.AlmQuestion.TheVariants as Q
-use Rattle.alm_core.specs.declared.alm_cache.AlmOutcome.{AlmOutcome}
 use Rattle.alm_core.specs.declared.alm_cache.AlmOutcome.TheVariants as O
 use Rattle.alm_core.specs.declared.alm_cache.AlmSettings.{AlmSettings}
 use Rattle.alm_core.specs.declared.alm_cache.AlmStepped.{AlmStepped}
 use Rattle.alm_core.specs.declared.alm_cache.AlmOptimizerStatus.{AlmOptimizerStatus}
-use Rattle.alm_core.specs.Values.{settings_of, loop_question, said, ended}
+use Rattle.alm_core.specs.Values.{loop_question, said, ended}
 use Rattle.alm_core.specs.Rest.{LoopBoard, rest, resume, sized, counts, sound, is_last, next_of, state_of, carried_of, found_of, found_y, y_of, y_plus_of, w_of, u_of}
-use Rattle.alm_core.specs.Board.{Ready, Closing, Sound, Comes, Takes, Carries, given, given_xi, set_of, stepped, at_phase, with_status, set_y, set_y_plus, set_w, set_u, set_plus, set_best, set_inner, four, five, six, found_all, settled_y, settled_f2, counted_with, status_at, handed_as, EndsWithin}
+use Rattle.alm_core.specs.Board.{Ready, Closing, Sound, Comes, Takes, Carries, given, given_xi, set_of, stepped, at_phase, with_status, set_y, set_y_plus, set_w, set_u, set_plus, four, five, six, found_all, settled_y, settled_f2, counted_with, status_at, handed_as}
 
 -- ---- sizes and counters in range
 or_right : (a b : Bool) → b ≡ true → (a || b) ≡ true

@@ -1,5 +1,5 @@
 -- What is left of a run of the loop, as a process of document 01. A run that no start made counts as one that has ended. Definitions only.
-use Rattle.std.specs.Prelude.{ℕ, ◌-◌, ◌*◌, Bool, true, false, ◌&&◌, ◌||◌, cond, List, leb, eqb, Float}
+use Rattle.std.specs.Prelude.{◌-◌, ◌*◌, Bool, true, false, ◌&&◌, ◌||◌, cond, List, leb, eqb, Float}
 use Rattle.std.specs.Float.{binary64}
 use Rattle.ieee.specs.Numbers.{null}
 use Rattle.matrix_operations.specs.Firsts.{firsts}

@@ -1,8 +1,8 @@
 -- What the loop's enums and records stand for in document 01's terms. Definitions only.
-use Rattle.std.specs.Prelude.{ℕ, List, [], Float}
-use Rattle.model.specs.Process.{End, handed, refused, failed, Process, ask, score, begin, stop, LoopHanded}
+use Rattle.std.specs.Prelude.{List, [], Float}
+use Rattle.model.specs.Process.{End, handed, refused, failed, ask, score, begin, stop, LoopHanded}
 use Rattle.model.specs.Process as M
-use Rattle.model.specs.Loop.{LoopSettings, xi_of}
+use Rattle.model.specs.Loop.{LoopSettings}
 use Rattle.panoc_core.specs.Values.{exit_status_of, question_of}
 use Rattle.panoc_core.specs.Values as Inner
 use Rattle.alm_core.specs.declared.alm_cache.AlmSettings.{AlmSettings}

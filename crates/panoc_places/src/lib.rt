@@ -1,5 +1,6 @@
 // The points of a question of the inner solve: how many places each has, and the first from its vector.
 #![tactic(auto)]
+
 ghost use Rattle.std.specs.Prelude.{◌≡◌, ◌≤◌, length};
 ghost use Rattle.panoc_core.specs.Board.{Board, run_of, asked, first_places, second_places, first_at};
 

@@ -1,7 +1,5 @@
 use Rattle.panoc_starts.proofs.StartLaws.{started, start_runs, start_refuses, start_same, start_stops}
-use mathlib.Core.Path.{sym, ◌∙◌, subst, refl}
-use Rattle.panoc_core.specs.Board.{set_u, Begins}
-use Rattle.panoc_core.specs.declared.panoc_cache.Solve.{Solve}
+use mathlib.Core.Path.{sym, ◌∙◌}
 use Rattle.panoc_starts.proofs.StartLaws.{started, start_runs, start_refuses, start_same}
 use borrow.Author.Rules.{rules}
 use Rattle.panoc_starts.proofs.start_in_place.Statement.{statement}
