@@ -110,9 +110,9 @@ class Turner:
             table = {old: new for old, new in table.items() if old in own}
         else:
             fields = table
-        return self.words(text, table, fields)
+        return self.words(text, table, fields, bool(re.search(r"/proofs/.+/[^/]+\.antt$", where)))
 
-    def words(self, text, table, fields):
+    def words(self, text, table, fields, made=False):
         def code(t):
             out, at, head = [], 0, None
             for m in re.finditer(NAME, t):
@@ -122,7 +122,7 @@ class Turner:
                 elif head is None:
                     head = ""
                 word = m[0]
-                if dot and head and (MADE.match(head) or head in ("native", "mathlib", "lib", "Prim", "borrow")):
+                if dot and head and (made and MADE.match(head) or head in ("native", "mathlib", "lib", "Prim", "borrow")):
                     new = word
                 elif dot and head == "Rattle":
                     # a whole path: its last name is the repository's own only where the path is

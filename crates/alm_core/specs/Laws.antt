@@ -159,11 +159,11 @@ module _ (s : Alm) (b b' : LoopBoard) (r : AlmStepped) (h : Sound s) (p : AlmPha
 
 -- ---- the definitions by cases, over any settings
 module _ (w : LoopSettings) (next : M.Status → LoopState → M.Loop) where
-  pub iteration_y : (st : LoopState) → w.setY ≡ true → L.iteration binary64 w next st ≡ ask (M.LoopQuestion.project_y st.y) (Kind.vector w.n1) (L.got_y binary64 w next st)
+  pub iteration_y : (st : LoopState) → w.set_y ≡ true → L.iteration binary64 w next st ≡ ask (M.LoopQuestion.project_y st.y) (Kind.vector w.n1) (L.got_y binary64 w next st)
   unfolding L.iteration
   iteration_y st q = ap (λ (t : Bool). cond t (ask (M.LoopQuestion.project_y st.y) (Kind.vector w.n1) (L.got_y binary64 w next st)) (L.inner_solve binary64 w next st)) q
 
-  pub iteration_free : (st : LoopState) → w.setY ≡ false → L.iteration binary64 w next st ≡ L.inner_solve binary64 w next st
+  pub iteration_free : (st : LoopState) → w.set_y ≡ false → L.iteration binary64 w next st ≡ L.inner_solve binary64 w next st
   unfolding L.iteration
   iteration_free st q = ap (λ (t : Bool). cond t (ask (M.LoopQuestion.project_y st.y) (Kind.vector w.n1) (L.got_y binary64 w next st)) (L.inner_solve binary64 w next st)) q
 

@@ -1,4 +1,6 @@
 // The tests and the numbers of an outer iteration: the exit test, the next penalty and tolerance, the counts.
+#![tactic(auto)]
+
 ghost use Rattle.std.specs.Prelude.{◌≡◌, true};
 ghost use Rattle.std.specs.Float.{binary64};
 ghost use Rattle.model.specs.Loop as L;

@@ -1,4 +1,6 @@
 // The points of the question that a run of d_psi waits with.
+#![tactic(auto)]
+
 ghost use Rattle.factory.specs.FactoryRest.{d_psi_rest};
 ghost use Rattle.factory.specs.FactoryCalls.{Points};
 ghost use Rattle.factory.specs.FactoryBoard.{DPsiBoard, d_psi_run_of, d_psi_utd};

@@ -1,4 +1,6 @@
 // The start of a run of d_psi.
+#![tactic(auto)]
+
 ghost use Rattle.std.specs.Prelude.{◌≡◌};
 ghost use Rattle.factory.specs.FactoryCalls.{DPsiStarts};
 ghost use Rattle.factory.specs.FactoryBoard.{DPsiBoard, d_psi_gave, d_psi_stepped, d_psi_uy};

@@ -1,14 +1,13 @@
 -- Laws that psi and d_psi share: sizes, the table, what a start takes, points. Assumes nothing.
-use Rattle.std.specs.Prelude.{ℕ, suc, ◌+◌, ◌-◌, ◌≤◌, ◌<◌, ◌≡◌, refl, Bool, true, false, cond, ◌&&◌, List, [], ◌∷◌, leb, eqb, ltb, Float, length, get_or, take, drop}
-use Rattle.std.proofs.Common.{sym, ap, ◌∙◌, arith, lt-ltb, le-ltb, le-leb, leb-true, eq-eqb, ne_eqb, eqb-true, take_all}
+use Rattle.std.specs.Prelude.{ℕ, suc, ◌+◌, ◌≤◌, ◌<◌, ◌≡◌, refl, Bool, true, false, cond, ◌&&◌, List, [], ◌∷◌, leb, eqb, ltb, Float, length}
+use Rattle.std.proofs.Common.{sym, ap, ◌∙◌, arith, le-leb, leb-true, eq-eqb, ne_eqb, eqb-true}
 use Rattle.std.proofs.Math.Path.{subst}
 use Rattle.std.proofs.Math.Option.{Option, none, some}
 use Rattle.std.proofs.lemmas.Bool.{lt-leb}
-use Rattle.ieee.proofs.Special.{zero_bits}
 use Rattle.matrix_operations.specs.Firsts.{firsts}
 use Rattle.matrix_operations.specs.Laws.{length_firsts}
 use Rattle.model.specs.Process.{Kind, Answer, refused, failed, Process, ask, score, begin, stop, PsiQuestion}
-use Rattle.model.specs.Refusals.{Reply, number, vector, yes, no, failure, unless, sizes_right, xi_length, mappings_right, psi_refusal, penalty_in, multipliers_in, wanted, given, as_number, as_vector, as_decision, fits_kind, fits_places, fits_length, answer_refusal, replied, accept}
+use Rattle.model.specs.Refusals.{Reply, number, vector, yes, no, failure, unless, sizes_right, xi_length, mappings_right, psi_refusal, multipliers_in, wanted, given, as_number, as_vector, as_decision, fits_kind, fits_places, fits_length, answer_refusal, replied, accept}
 use Rattle.factory.specs.declared.alm_factory.Sizes.{Sizes}
 use Rattle.factory.specs.FactoryValues.{sizes_of, first_point, second_point}
 use Rattle.factory.specs.FactoryRest.{sound_sizes}

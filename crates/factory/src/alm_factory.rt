@@ -3,7 +3,7 @@ pub mod points;
 pub mod start;
 
 // n, n1 and n2: the places of u, of F1 and of F2.
-#[derive(Drop)]
+#[derive(Clone, Copy)]
 pub struct Sizes {
     pub n: usize,
     pub n1: usize,
@@ -11,7 +11,7 @@ pub struct Sizes {
 }
 
 // A question of psi or d_psi: cost and gradient of f, F1, the projection on C, F2, and the transposed Jacobian products.
-#[derive(Drop)]
+#[derive(Clone, Copy)]
 pub enum PsiQuestion {
     Cost,
     Gradient,
@@ -23,7 +23,7 @@ pub enum PsiQuestion {
 }
 
 // Which question a run of psi waits for. Over: it has ended.
-#[derive(Drop)]
+#[derive(Clone, Copy)]
 pub enum PsiPhase {
     Cost,
     F1,
@@ -33,7 +33,7 @@ pub enum PsiPhase {
 }
 
 // What a call of psi gives: the next question, the end with its number, a refusal by its number, or the host's failure by its code.
-#[derive(Drop)]
+#[derive(Clone, Copy)]
 pub enum PsiOutcome {
     Asked(PsiQuestion),
     Ended(f64),
@@ -42,7 +42,7 @@ pub enum PsiOutcome {
 }
 
 // The small part of a run of psi: c is the penalty, value is psi so far.
-#[derive(Drop)]
+#[derive(Clone, Copy)]
 pub struct PsiState {
     pub phase: PsiPhase,
     pub sizes: Sizes,
@@ -51,7 +51,7 @@ pub struct PsiState {
 }
 
 // What a call of psi in place gives: the vectors are where they were lent.
-#[derive(Drop)]
+#[derive(Clone, Copy)]
 pub struct PsiStepped {
     pub outcome: PsiOutcome,
     pub state: PsiState,
@@ -74,7 +74,7 @@ pub struct PsiAnswered {
 }
 
 // Which question a run of d_psi waits for. Over: it has ended.
-#[derive(Drop)]
+#[derive(Clone, Copy)]
 pub enum DPsiPhase {
     Gradient,
     F1,
@@ -86,7 +86,7 @@ pub enum DPsiPhase {
 }
 
 // What a call of d_psi gives: at the end its numbers are in the lent slice.
-#[derive(Drop)]
+#[derive(Clone, Copy)]
 pub enum DPsiOutcome {
     Asked(PsiQuestion),
     Ended,
@@ -95,7 +95,7 @@ pub enum DPsiOutcome {
 }
 
 // The small part of a run of d_psi: c is the penalty.
-#[derive(Drop)]
+#[derive(Clone, Copy)]
 pub struct DPsiState {
     pub phase: DPsiPhase,
     pub sizes: Sizes,
@@ -103,7 +103,7 @@ pub struct DPsiState {
 }
 
 // What a call of d_psi in place gives: the vectors are where they were lent.
-#[derive(Drop)]
+#[derive(Clone, Copy)]
 pub struct DPsiStepped {
     pub outcome: DPsiOutcome,
     pub state: DPsiState,

@@ -1,4 +1,6 @@
 // A handler changes the lent numbers by these calls: each replaces the numbers it names and keeps the others.
+#![tactic(auto)]
+
 ghost use Rattle.std.specs.Prelude.{◌≡◌};
 ghost use Rattle.image.specs.Image.{stood, forgotten, counted_steps, counted_rounds, cost_put, gammas_put, norms_put, search_put, norm_h_put, numbers_of, noted, noted_count, noted_end};
 

@@ -7,14 +7,14 @@ ghost use Rattle.model.specs.Inner.{passes};
 ghost use Rattle.panoc_core.specs.Board.{Board, stepped, at_phase, with_status, best_at, set_of, state_at, set_gradient, set_previous, set_fpr};
 
 // The AKKT tolerance, which may be missing in an inner solve used alone.
-#[derive(Drop)]
+#[derive(Clone, Copy)]
 pub enum AkktTolerance {
     Missing,
     Set(f64),
 }
 
 // What a start is given: n, M, whether TIME is asked, the tolerances.
-#[derive(Drop)]
+#[derive(Clone, Copy)]
 pub struct Settings {
     pub n: usize,
     pub max_iter: usize,
@@ -24,7 +24,7 @@ pub struct Settings {
 }
 
 // The three ends.
-#[derive(Drop)]
+#[derive(Clone, Copy)]
 pub enum ExitStatus {
     Converged,
     NotConvergedIterations,
@@ -32,12 +32,12 @@ pub enum ExitStatus {
 }
 
 // A count of inner iterations; an outer count is another type.
-#[derive(Drop)]
+#[derive(Clone, Copy)]
 pub struct InnerIterations(pub usize);
 
 // The running numbers of a solve. rhs_ls is what the next test holds a value to: the half step's cost, or a candidate's envelope; norm_h
 // is the norm of the shift of the Lipschitz estimate.
-#[derive(Drop)]
+#[derive(Clone, Copy)]
 pub struct Numbers {
     pub cost_value: f64,
     pub lipschitz_constant: f64,
@@ -52,7 +52,7 @@ pub struct Numbers {
 
 // Which question a run waits for: those of the start, of a step's half step, of the doubling, DIRECTION, of the first step's move, of a
 // candidate, TIME, the last COST. Over: it has ended.
-#[derive(Drop)]
+#[derive(Clone, Copy)]
 pub enum Phase {
     Over,
     Cost,
@@ -74,7 +74,7 @@ pub enum Phase {
 }
 
 // A question of the inner solve. DIRECTION says whether to forget.
-#[derive(Drop)]
+#[derive(Clone, Copy)]
 pub enum Question {
     Cost,
     Gradient,
@@ -84,7 +84,7 @@ pub enum Question {
 }
 
 // An answer: the vector stands beside it, in a lent slice.
-#[derive(Drop)]
+#[derive(Clone, Copy)]
 pub enum Reply {
     Number(f64),
     Vector,
@@ -94,7 +94,7 @@ pub enum Reply {
 }
 
 // What is handed back with the plan.
-#[derive(Drop)]
+#[derive(Clone, Copy)]
 pub struct SolverStatus {
     pub exit_status: ExitStatus,
     pub iterations: InnerIterations,
@@ -103,7 +103,7 @@ pub struct SolverStatus {
 }
 
 // What a call gives: the next question, the end, a refusal by its number, or the host's failure by its code.
-#[derive(Drop)]
+#[derive(Clone, Copy)]
 pub enum Outcome {
     Asked(Question),
     Ended(SolverStatus),
@@ -113,7 +113,7 @@ pub enum Outcome {
 
 // The small part of a run. left: how many steps may still begin; status: the end that stands for the present step; rounds: how many
 // doublings or candidates may follow; forget: what DIRECTION says.
-#[derive(Drop)]
+#[derive(Clone, Copy)]
 pub struct Solve {
     pub phase: Phase,
     pub set: Settings,
@@ -126,7 +126,7 @@ pub struct Solve {
 }
 
 // What a call in place gives: the vectors are where they were lent.
-#[derive(Drop)]
+#[derive(Clone, Copy)]
 pub struct Stepped {
     pub outcome: Outcome,
     pub solve: Solve,

@@ -7,7 +7,7 @@ use crate::panoc_cache::Reply;
 
 // What a run waits for: nothing once it has ended; a number; a vector of so many places; a direction, for which no failure is taken; a
 // yes or no.
-#[derive(Drop)]
+#[derive(Clone, Copy)]
 pub enum Wanted {
     Nothing,
     Number,

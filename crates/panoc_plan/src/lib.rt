@@ -1,4 +1,6 @@
 // What a run of the inner solve gives out in a lent slice where it ends: the plan.
+#![tactic(auto)]
+
 ghost use Rattle.std.specs.Prelude.{◌≡◌, ◌≤◌, length};
 ghost use Rattle.panoc_core.specs.Board.{given};
 ghost use Rattle.matrix_operations.specs.Firsts.{firsts};

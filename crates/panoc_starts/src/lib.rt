@@ -1,4 +1,6 @@
 // The start of an inner solve: its tests, and the run that waits for its first COST.
+#![tactic(auto)]
+
 ghost use Rattle.std.specs.Prelude.{◌≡◌};
 ghost use Rattle.model.specs.Refusals as R;
 ghost use Rattle.panoc_core.specs.Values.{akkt_of, settings_of};

@@ -1,4 +1,6 @@
 // What a run of the inner solve waits for: over lent numbers, and by value.
+#![tactic(auto)]
+
 ghost use Rattle.std.specs.Prelude.{◌≡◌, List, Float};
 ghost use Rattle.panoc_core.specs.Values.{kind_of};
 ghost use Rattle.panoc_core.specs.Rest.{sound};

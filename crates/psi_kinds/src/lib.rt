@@ -1,4 +1,6 @@
 // The enums of psi and d_psi as numbers. Any number is read.
+#![tactic(auto)]
+
 ghost use Rattle.std.specs.Prelude.{◌≡◌};
 ghost use Rattle.psi_kinds.specs.PsiKinds.{psi_phase_of, psi_phase_number, d_psi_phase_of, d_psi_phase_number, question_number, reply_of};
 

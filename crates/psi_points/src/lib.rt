@@ -1,4 +1,6 @@
 // The points of the question that a run of psi waits with.
+#![tactic(auto)]
+
 ghost use Rattle.factory.specs.FactoryRest.{psi_rest};
 ghost use Rattle.factory.specs.FactoryCalls.{Points};
 ghost use Rattle.factory.specs.FactoryBoard.{PsiBoard, psi_run_of, psi_ut};

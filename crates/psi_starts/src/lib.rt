@@ -1,4 +1,6 @@
 // The start of a run of psi.
+#![tactic(auto)]
+
 ghost use Rattle.std.specs.Prelude.{◌≡◌};
 ghost use Rattle.factory.specs.FactoryCalls.{PsiStarts};
 ghost use Rattle.factory.specs.FactoryBoard.{PsiBoard, psi_gave, psi_stepped, psi_uy};
