@@ -2,14 +2,13 @@
 use Prim.Native.Nat.{ℕ, zero, suc, ◌*◌, ◌-◌, ◌≤◌, ◌<◌}
 use Rattle.std.proofs.Math.Path.{◌≡◌, refl, sym, ap, subst}
 use Rattle.std.proofs.Common.{◌∙◌, arith}
-use Rattle.std.specs.Prelude.{Bool, not, ◌&&◌, ◌||◌, ltb, take, drop, set}
+use Rattle.std.specs.Prelude.{Bool, ◌&&◌, ◌||◌, ltb, take, drop, set}
 use Rattle.std.proofs.Math.Bool.{true, false, cond}
 use mathlib.Core.List.{List, [], ◌∷◌, ◌++◌}
 use Rattle.std.proofs.Math.Option.{Option, none, some}
 use borrow.Author.Tests.{le-leb, lt-leb, leb-true, ltb-true, eq-eqb, ne_eqb, eqb-true}
 use Rattle.std.proofs.Math.Dec.{leb, eqb}
 use Rattle.std.specs.Float.Ieee.{Float, binary64, of_bits}
-use Rattle.model.specs.Constants.{one}
 use Rattle.std.proofs.Math.ListN.{length}
 use Rattle.std.proofs.Math.Seq.{take-length, drop-length}
 use borrow.Rule.Slice.PartMut.{put_mid}
@@ -55,7 +54,6 @@ use Rattle.alm_core.specs.declared.alm_cache.AlmOutcome.TheVariants as O
 use Rattle.alm_core.specs.declared.alm_cache.AlmStepped.{AlmStepped}
 use Rattle.start_sizes.specs.SizeLaws.{xi_length_lem, xi_short}
 use Rattle.alm_calls.specs.LoopCalls.{wanted_at, wanted_of, run_of, gave, lent_right, xi_given, xi_handed, tolerances_right, factors_right, limits_right, first_alm, Answers, Starts, Begins}
-
 use Rattle.alm_calls.specs.LoopLaws.{phase_code}
 
 bit : {X : Type 0} → true ≡ false → X

@@ -1,5 +1,5 @@
 -- What the public calls of the loop give, in terms of the process that is left of a run. Definitions only.
-use Rattle.std.specs.Prelude.{ℕ, zero, suc, ◌≡◌, Bool, true, false, cond, ◌&&◌, List, [], ◌∷◌, eqb, Float, length}
+use Rattle.std.specs.Prelude.{ℕ, suc, ◌≡◌, Bool, cond, ◌&&◌, List, [], ◌∷◌, eqb, Float, length}
 use Rattle.std.proofs.Math.Option.{Option, none, some}
 use Rattle.std.specs.Float.{binary64}
 use Rattle.std.specs.Float.Ieee.{of_bits}
@@ -8,7 +8,7 @@ use Rattle.model.specs.Process.{Kind, ask, score, begin, stop, Loop}
 use Rattle.model.specs.Process as M
 use Rattle.model.specs.Refusals.{wanted, answer_refusal, accept, remains, lent_after, loop_plan, loop_xi, start_loop, xi_length, tolerance_right, factor_right, fraction_right, limit_right}
 use Rattle.panoc_core.specs.Values.{reply_of}
-use Rattle.panoc_core.specs.Board.{Board, Lent}
+use Rattle.panoc_core.specs.Board.{Lent}
 use Rattle.panoc_core.specs.Board as Inner
 use Rattle.panoc_core.specs.declared.panoc_cache.Reply.{Reply}
 use Rattle.panoc_core.specs.declared.panoc_cache.ExitStatus.TheVariants.{Converged}

@@ -1,9 +1,7 @@
 -- What the dispatch and the public calls of the loop need: what is wanted at each phase, what an accepted answer is, what a call gives. Assumes nothing.
 use Prim.Native.Nat.{ℕ}
-use Rattle.std.specs.Prelude.{not}
 use Rattle.alm_core.specs.declared.alm_cache.AlmPhase.{AlmPhase}
 use Rattle.alm_core.specs.declared.alm_cache.AlmPhase.TheVariants as P
-
 
 -- a phase that is not the inner solve's
 abbrev pub phase_code : AlmPhase → ℕ

@@ -1,5 +1,6 @@
 // Where an outer iteration of the multiplier loop begins, and its inner solve.
 #![tactic(auto)]
+
 ghost use Rattle.std.specs.Float.{binary64};
 ghost use Rattle.model.specs.Loop as L;
 ghost use Rattle.panoc_core.specs.Values.{status_of};

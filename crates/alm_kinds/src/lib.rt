@@ -1,4 +1,6 @@
 // The loop's enums as numbers. Any number is read.
+#![tactic(auto)]
+
 ghost use Rattle.std.specs.Prelude.{◌≡◌};
 ghost use Rattle.alm_kinds.specs.AlmKinds.{phase_of, phase_number, question_number};
 

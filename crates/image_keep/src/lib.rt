@@ -1,4 +1,6 @@
 // The small part of an inner solve, into lent numbers that have its settings.
+#![tactic(auto)]
+
 ghost use Rattle.std.specs.Prelude.{◌≡◌};
 ghost use Rattle.image.specs.Image.{settings_of, with_numbers, solve_of};
 

@@ -2,13 +2,8 @@
 use Prim.Native.Nat.{◌-◌, ◌≤◌}
 use lib.ListN.{length}
 use native.Mathlib.Omega.{arith}
-use borrow.Author.Rules.{rules}
 use Rattle.shown.proofs.point.Statement.{statement}
 use Rattle.shown.proofs.point.Tie as tie
-use Rattle.shown.proofs.point.Reads as reads
-use Rattle.shown.proofs.point.Lts as lts
-use Rattle.shown.proofs.float.Reads as float-reads
-use Rattle.shown.proofs.word.Reads as word-reads
 
 abbrev invariant-loop : tie.invariant-loop
 invariant-loop name v i₀ i = i ≤ length v

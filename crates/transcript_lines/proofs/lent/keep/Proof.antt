@@ -1,5 +1,5 @@
 -- `transcript_lines::lent::keep` meets its contract: safe and ends: the measure is the number of places that are left. Assumes nothing.
-use Prim.Native.Nat.{◌≤◌, ◌-◌}
+use Prim.Native.Nat.{◌-◌}
 use mathlib.Core.Path.{◌≡◌, refl}
 use native.Mathlib.Omega.{arith}
 use lib.ListN.{length, length-set}
