@@ -108,7 +108,7 @@ pub struct AlmStepped {
 }
 
 // A run by value: the small part, the vectors of the inner solve, and y, y_plus and F1.
-#[derive(Drop)]
+#[derive(Clone, Copy)]
 pub struct AlmRun {
     pub alm: Alm,
     pub u: [f64; 64],

@@ -1,4 +1,6 @@
 // What a run of the loop waits for.
+#![tactic(auto)]
+
 ghost use Rattle.std.specs.Prelude.{◌≡◌};
 ghost use Rattle.panoc_core.specs.Values.{kind_of};
 ghost use Rattle.alm_core.specs.Rest.{sized, counts, sound};

@@ -1,4 +1,6 @@
 // The weighing of an outer iteration, and what is asked before it.
+#![tactic(auto)]
+
 ghost use Rattle.std.specs.Float.{binary64};
 ghost use Rattle.model.specs.Loop as L;
 ghost use Rattle.alm_core.specs.Rest.{LoopBoard, next_of, found_of, found_y};

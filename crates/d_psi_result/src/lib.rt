@@ -1,5 +1,6 @@
 // The result of d_psi in the slice that the host lends.
 #![tactic(auto)]
+
 ghost use Rattle.std.specs.Prelude.{◌≡◌, ◌≤◌, length};
 ghost use Rattle.matrix_operations.specs.Firsts.{firsts};
 ghost use Rattle.factory.specs.FactoryBoard.{given};

@@ -58,7 +58,7 @@ pub struct PsiStepped {
 }
 
 // A run of psi by value. t is F1 + y / max(c, 1), work a copy of an answer.
-#[derive(Drop)]
+#[derive(Clone, Copy)]
 pub struct PsiRun {
     pub state: PsiState,
     pub u: [f64; 64],
@@ -110,7 +110,7 @@ pub struct DPsiStepped {
 }
 
 // A run of d_psi by value. gradient is d_psi so far, t is F1 + y / c, d the vector of a product, work a copy of an answer.
-#[derive(Drop)]
+#[derive(Clone, Copy)]
 pub struct DPsiRun {
     pub state: DPsiState,
     pub u: [f64; 64],

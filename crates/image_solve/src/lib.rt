@@ -1,4 +1,6 @@
 // The small part of an inner solve in three lent arrays: w, k and f, laid out as Image.antt of the crate image says.
+#![tactic(auto)]
+
 ghost use Rattle.std.specs.Prelude.{◌≡◌, cond};
 ghost use Rattle.image.specs.Image.{settings_given, settings_of, solve_of, outcome_of, step_of, noted, Tells};
 

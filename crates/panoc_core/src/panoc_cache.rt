@@ -133,7 +133,7 @@ pub struct Stepped {
 }
 
 // A run by value: the small part and the vectors.
-#[derive(Drop)]
+#[derive(Clone, Copy)]
 pub struct Run {
     pub solve: Solve,
     pub u: [f64; 64],

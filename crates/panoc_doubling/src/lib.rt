@@ -1,4 +1,6 @@
 // The answers at the half step and while doubling.
+#![tactic(auto)]
+
 ghost use Rattle.std.specs.Prelude.{◌≡◌, [], length, get_or};
 ghost use Rattle.panoc_core.specs.Board.{Board, Sound, Takes, set_u, set_gradient, set_step, set_half, set_fpr};
 ghost use Rattle.image.specs.Image.{phase_of, solve_of, step_of};

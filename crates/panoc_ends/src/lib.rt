@@ -1,4 +1,6 @@
 // Which end stands for a step, and the last COST.
+#![tactic(auto)]
+
 ghost use Rattle.std.specs.Prelude.{◌≡◌, [], get_or};
 ghost use Rattle.std.specs.Float.{binary64};
 ghost use Rattle.model.specs.State as S;

@@ -1,4 +1,6 @@
 // The start of a solve: the first cost, the gradient at u, and the estimate of the Lipschitz constant, which leaves u shifted.
+#![tactic(auto)]
+
 ghost use Rattle.std.specs.Prelude.{◌≡◌, [], length, get_or};
 ghost use Rattle.panoc_core.specs.Board.{Board, Sound, Takes, set_u, set_gradient, set_step};
 ghost use Rattle.image.specs.Image.{phase_of, solve_of, step_of};

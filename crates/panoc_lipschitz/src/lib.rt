@@ -1,4 +1,6 @@
 // The doubling of L, and the question for a DIRECTION.
+#![tactic(auto)]
+
 ghost use Rattle.std.specs.Float.{binary64};
 ghost use Rattle.std.specs.Prelude.{get_or};
 ghost use Rattle.model.specs.Inner as I;

@@ -1,4 +1,6 @@
 // The next step, or what follows the last.
+#![tactic(auto)]
+
 ghost use Rattle.std.specs.Prelude.{get_or};
 ghost use Rattle.panoc_core.specs.Board.{Board, Sound, Residual, Laps, six};
 ghost use Rattle.image.specs.Image.{solve_of, step_of};

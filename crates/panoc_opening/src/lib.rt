@@ -1,4 +1,6 @@
 // The first half step, and the first step.
+#![tactic(auto)]
+
 ghost use Rattle.std.specs.Prelude.{◌≡◌, length, get_or};
 ghost use Rattle.panoc_core.specs.Board.{Board, Sound, Takes, six};
 ghost use Rattle.image.specs.Image.{phase_of, solve_of, step_of};

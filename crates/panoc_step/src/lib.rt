@@ -1,4 +1,6 @@
 // A step with its tests.
+#![tactic(auto)]
+
 ghost use Rattle.std.specs.Prelude.{get_or};
 ghost use Rattle.panoc_core.specs.Board.{Board, Sound, Residual, Steps, six};
 ghost use Rattle.image.specs.Image.{solve_of, step_of};

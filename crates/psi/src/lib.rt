@@ -1,4 +1,6 @@
 // psi: f + (c/2) × |t - P|² + (c/2) × |F2|², t = F1 + y / max(c, 1), P its projection on C.
+#![tactic(auto)]
+
 ghost use Rattle.std.specs.Prelude.{◌≡◌, true, List, Float, length};
 ghost use Rattle.model.specs.Refusals.{answer_refusal};
 ghost use Rattle.panoc_core.specs.Values.{reply_of, kind_of};

@@ -1,0 +1,29 @@
+use Rattle.factory.specs.declared.alm_factory.PsiPhase.TheVariants as P
+use Rattle.std.proofs.Common.{refl}
+use Rattle.psi.proofs.PsiLaws.{vector_at, vector_not_cost, vector_not_over}
+use Rattle.factory.specs.FactoryBoard.{psi_ytw}
+use Rattle.psi.proofs.on_vector.Goals as goal
+
+pub on_f1-requires : goal.on_f1-requires
+on_f1-requires c = vector_at c.args.s _ c.requires P.F1 _ c.in-F1.is refl
+
+pub on_project_c-requires : goal.on_project_c-requires
+on_project_c-requires c = vector_at c.args.s _ c.requires P.ProjectC _ c.in-ProjectC.is refl
+
+pub on_f2-requires : goal.on_f2-requires
+on_f2-requires c = vector_at c.args.s _ c.requires P.F2 _ c.in-F2.is refl
+
+pub returns-in-F1 : goal.returns-in-F1
+returns-in-F1 c = λ b. c.on_f1.ensures b
+
+pub returns-in-ProjectC : goal.returns-in-ProjectC
+returns-in-ProjectC c = λ b. c.on_project_c.ensures (psi_ytw c.args.y.now c.args.t.now c.args.work.now b)
+
+pub returns-in-F2 : goal.returns-in-F2
+returns-in-F2 c = λ b. c.on_f2.ensures (psi_ytw c.args.y.now c.args.t.now c.args.work.now b)
+
+pub returns-in-Cost : goal.returns-in-Cost
+returns-in-Cost c = absurd (vector_not_cost c.args.s _ c.requires c.in-Cost.is)
+
+pub returns-in-Over : goal.returns-in-Over
+returns-in-Over c = absurd (vector_not_over c.args.s _ c.requires c.in-Over.is)
