@@ -1,4 +1,6 @@
 // The handlers of the loop's own questions.
+#![tactic(auto)]
+
 ghost use Rattle.std.specs.Prelude.{◌≡◌, true, [], length};
 ghost use Rattle.model.specs.Loop as L;
 ghost use Rattle.panoc_core.specs.Values.{decided};

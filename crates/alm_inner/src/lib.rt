@@ -1,4 +1,6 @@
 // What the inner solve has come to, carried out by the loop.
+#![tactic(auto)]
+
 ghost use Rattle.std.specs.Prelude.{◌≡◌, ◌≤◌};
 ghost use Rattle.std.specs.Float.{binary64};
 ghost use Rattle.model.specs.Loop as L;

@@ -1,4 +1,6 @@
 // The points of the question that a run of the loop waits with.
+#![tactic(auto)]
+
 ghost use Rattle.std.specs.Prelude.{◌≡◌, ◌≤◌};
 ghost use Rattle.alm_core.specs.Rest.{LoopBoard};
 ghost use Rattle.model.specs.Refusals as R;

@@ -1,4 +1,6 @@
 // A candidate that is taken.
+#![tactic(auto)]
+
 ghost use Rattle.std.specs.Prelude.{◌≡◌, get_or};
 ghost use Rattle.std.specs.Float.{binary64};
 ghost use Rattle.ieee.specs.Sums.{squares};

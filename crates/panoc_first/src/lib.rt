@@ -1,4 +1,6 @@
 // The move of the first step, and DIRECTION's answer.
+#![tactic(auto)]
+
 ghost use Rattle.std.specs.Prelude.{◌≡◌, [], length, get_or};
 ghost use Rattle.panoc_core.specs.Board.{Board, Sound, Takes, seven, set_u, set_gradient, set_step};
 ghost use Rattle.image.specs.Image.{phase_of, solve_of, step_of};

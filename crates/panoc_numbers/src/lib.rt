@@ -1,4 +1,6 @@
 // A number that was asked for, by the phase of a lent run.
+#![tactic(auto)]
+
 ghost use Rattle.std.specs.Prelude.{◌≡◌, []};
 ghost use Rattle.std.proofs.Math.Option.{some};
 ghost use Rattle.model.specs.Process.{Kind};

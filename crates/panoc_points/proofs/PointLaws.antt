@@ -1,5 +1,5 @@
 -- What the call for points gives. Assumes nothing.
-use Prim.Native.Nat.{ℕ, ◌-◌}
+use Prim.Native.Nat.{ℕ}
 use mathlib.Core.Path.{◌≡◌, refl, sym, ap, ◌∙◌, subst}
 use mathlib.Core.Bool.{Bool, true, false, cond, ◌&&◌}
 use mathlib.Core.List.{List}
@@ -12,7 +12,6 @@ use lib.ListN.{length}
 use Rattle.matrix_operations.specs.Firsts.{firsts}
 use Rattle.model.specs.Process as M
 use Rattle.model.specs.Refusals.{wanted}
-use Rattle.panoc_core.specs.declared.panoc_cache.Phase.{Phase}
 use Rattle.panoc_core.specs.declared.panoc_cache.AkktTolerance.TheVariants as A
 use Rattle.panoc_core.specs.declared.panoc_cache.Solve.{Solve}
 use Rattle.panoc_core.specs.Values.{first_point, second_point}

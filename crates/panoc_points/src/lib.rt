@@ -1,4 +1,6 @@
 // What a run of the inner solve gives out in lent slices where it waits: the points of its question.
+#![tactic(auto)]
+
 ghost use Rattle.std.specs.Prelude.{◌≡◌};
 ghost use Rattle.panoc_core.specs.Board.{Board, run_of, wanted_of, waiting, asked};
 ghost use Rattle.panoc_core.specs.Calls.{Points};

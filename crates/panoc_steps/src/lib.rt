@@ -1,4 +1,6 @@
 // The solve between its steps.
+#![tactic(auto)]
+
 ghost use Rattle.std.specs.Prelude.{get_or};
 ghost use Rattle.panoc_core.specs.Board.{Board, Sound, Residual, Times, Onward, six};
 ghost use Rattle.image.specs.Image.{solve_of, step_of};

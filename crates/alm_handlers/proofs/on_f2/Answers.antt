@@ -1,0 +1,16 @@
+use Rattle.std.proofs.Common.{arith}
+use Rattle.alm_core.specs.Laws.{sized_n2, norm_ready, f2_every}
+use Rattle.alm_core.specs.Board.{five}
+use Rattle.alm_handlers.proofs.on_f2.Goals as goal
+
+pub take_into-requires : goal.take_into-requires
+take_into-requires c = omega (arith, sized_n2 c.args.s c.requires.0.0, c.requires.2)
+
+pub norm2-norm-requires : goal.norm2-norm-requires
+norm2-norm-requires c = omega (arith, sized_n2 c.args.s c.requires.0.0)
+
+pub weigh-requires : goal.weigh-requires
+weigh-requires c = norm_ready c.args.s _ c.requires.0
+
+pub returns : goal.returns
+returns c = λ b. f2_every c.args.s (five c.args.u.now c.args.scratch.now c.args.best.now c.args.y.now c.args.plus.now b) _ c.requires.0 _ _ _ _ _ c.requires.1 c.requires.2 c.take_into.ensures c.norm2-norm.ensures c.weigh.ensures
