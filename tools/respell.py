@@ -128,6 +128,9 @@ class Turner:
                     # a whole path: its last name is the repository's own only where the path is
                     line = t[t.rfind("Rattle", 0, m.start()) : m.start()]
                     new = table.get(word, fields.get(word, word)) if is_own(line.rstrip("."), self.crates) else word
+                elif re.search(r"[{;] *$", t[at : m.start()]) and re.match(r" =", t[m.end() :]):
+                    # a field of a record that is written out
+                    new = fields.get(word, word)
                 else:
                     new = (fields if dot else table).get(word, word)
                 out += [t[at : m.start()], new]

@@ -1,4 +1,6 @@
 // The small part of a run of the multiplier loop before its first outer iteration.
+#![tactic(auto)]
+
 ghost use Rattle.std.specs.Prelude.{◌≡◌};
 ghost use Rattle.alm_calls.specs.LoopCalls.{first_alm};
 

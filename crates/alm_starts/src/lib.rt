@@ -1,4 +1,6 @@
 // The start of the multiplier loop: its tests, and the run before its first outer iteration.
+#![tactic(auto)]
+
 ghost use Rattle.std.specs.Prelude.{◌≡◌};
 ghost use Rattle.alm_core.specs.Rest.{LoopBoard};
 ghost use Rattle.std.specs.Float.{binary64};

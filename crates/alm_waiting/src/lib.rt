@@ -1,4 +1,6 @@
 // What a lent loop waits for, read off its numbers without taking the run apart.
+#![tactic(auto)]
+
 ghost use Rattle.std.specs.Prelude.{◌≡◌};
 ghost use Rattle.panoc_core.specs.Values.{kind_of};
 ghost use Rattle.alm_core.specs.Rest.{sized, counts, sound};

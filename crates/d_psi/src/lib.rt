@@ -1,4 +1,6 @@
 // d_psi: the gradient of f with c × each transposed Jacobian product added, taken with t - P, t = F1 + y / c, and with F2.
+#![tactic(auto)]
+
 ghost use Rattle.std.specs.Prelude.{◌≡◌, true, ◌≤◌, length};
 ghost use Rattle.std.specs.Float.{binary64};
 ghost use Rattle.matrix_operations.specs.Firsts.{firsts};

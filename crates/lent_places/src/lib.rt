@@ -1,4 +1,6 @@
 // The lent u and xi of a loop on lent numbers: whether they fit, and what an end hands back in them.
+#![tactic(auto)]
+
 ghost use Rattle.std.specs.Prelude.{◌≡◌, ◌&&◌, ◌≤◌, eqb, length, get_or};
 ghost use Rattle.model.specs.Refusals.{xi_length};
 ghost use Rattle.alm_image.specs.AlmImage.{settings_of, step_of};

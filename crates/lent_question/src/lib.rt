@@ -1,4 +1,6 @@
 // The question of the inner solve that a loop on lent numbers carries.
+#![tactic(auto)]
+
 ghost use Rattle.lent_question.specs.Settling.{Settled};
 
 use image_puts::note;

@@ -1,4 +1,6 @@
 // PROJECT's answers after a move: the iterate or the candidate is taken, or another candidate is tried.
+#![tactic(auto)]
+
 ghost use Rattle.std.specs.Prelude.{◌≡◌, length, get_or};
 ghost use Rattle.panoc_core.specs.Board.{Board, Sound, Takes, six, nine};
 ghost use Rattle.image.specs.Image.{phase_of, solve_of, step_of};

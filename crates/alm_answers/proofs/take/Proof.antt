@@ -15,7 +15,7 @@ returns : tie.Need-returns
 returns c = search rules
 
 returns-2 : tie.Need-returns-2
-returns-2 c = c.take_own.ensures (record { inner = record { u = c.before.before.before.before.before.before.before.before.before.before.args.u.now; plus = c.before.before.before.before.before.before.before.before.before.before.args.candidate.now; gradient = c.before.before.before.before.before.before.before.before.before.before.args.gradient.now; previous = c.before.before.before.before.before.before.before.before.before.before.args.previous.now; step = c.before.before.before.before.before.before.before.before.before.before.args.step.now; half = c.before.before.before.before.before.before.before.before.before.before.args.half.now; fpr = c.before.before.before.before.before.before.before.before.before.before.args.fpr.now; direction = c.before.before.before.before.before.before.before.before.before.before.args.direction.now; best = c.before.before.before.before.before.before.before.before.before.before.args.best.now }; y = c.before.before.before.before.before.before.before.before.before.before.args.y.now; yPlus = c.before.before.before.before.before.before.before.before.before.before.args.plus.now; w = c.before.before.before.before.before.before.before.before.before.before.args.w.now })
+returns-2 c = c.take_own.ensures (record { inner = record { u = c.before.before.before.before.before.before.before.before.before.before.args.u.now; plus = c.before.before.before.before.before.before.before.before.before.before.args.candidate.now; gradient = c.before.before.before.before.before.before.before.before.before.before.args.gradient.now; previous = c.before.before.before.before.before.before.before.before.before.before.args.previous.now; step = c.before.before.before.before.before.before.before.before.before.before.args.step.now; half = c.before.before.before.before.before.before.before.before.before.before.args.half.now; fpr = c.before.before.before.before.before.before.before.before.before.before.args.fpr.now; direction = c.before.before.before.before.before.before.before.before.before.before.args.direction.now; best = c.before.before.before.before.before.before.before.before.before.before.args.best.now }; y = c.before.before.before.before.before.before.before.before.before.before.args.y.now; y_plus = c.before.before.before.before.before.before.before.before.before.before.args.plus.now; w = c.before.before.before.before.before.before.before.before.before.before.args.w.now })
 
 pub take_spec : {M : Type 1} → statement M
 take_spec = tie.close (tie.spec asks-inner-requires take-inner-requires take-own-requires returns returns-2)

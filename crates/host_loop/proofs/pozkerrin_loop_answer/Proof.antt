@@ -14,7 +14,7 @@ refuse-requires : tie.Need-refuse-requires
 refuse-requires c κs = search rules
 
 returns : tie.Need-returns
-returns c = malformed_as _ _ _ c.before.before.before.before.before.before.before.before.before.before.before.before.before.before.args.v.now c.before.before.before.before.before.before.before.before.before.before.before.before.before.before.args.plan.now c.before.before.before.before.before.before.before.before.before.before.before.before.before.before.args.xi.now c.before.before.before.before.before.before.before.before.before.before.before.before.before.before.args.w.now _ c.before.before.before.before.before.before.before.before.before.before.before.before.before.before.args.k.now c.before.before.before.before.before.before.before.before.before.before.before.before.before.before.args.f.now c.before.before.before.before.before.before.before.before.before.before.before.before.before.before.args.lw.now c.before.before.before.before.before.before.before.before.before.before.before.before.before.before.args.lk.now c.before.before.before.before.before.before.before.before.before.before.before.before.before.before.args.lf.now (record { inner = record { u = c.before.before.before.before.before.before.before.before.before.before.before.before.before.before.args.u.now; plus = c.before.before.before.before.before.before.before.before.before.before.before.before.before.before.args.candidate.now; gradient = c.before.before.before.before.before.before.before.before.before.before.before.before.before.before.args.gradient.now; previous = c.before.before.before.before.before.before.before.before.before.before.before.before.before.before.args.previous.now; step = c.before.before.before.before.before.before.before.before.before.before.before.before.before.before.args.step.now; half = c.before.before.before.before.before.before.before.before.before.before.before.before.before.before.args.half.now; fpr = c.before.before.before.before.before.before.before.before.before.before.before.before.before.before.args.fpr.now; direction = c.before.before.before.before.before.before.before.before.before.before.before.before.before.before.args.direction.now; best = c.before.before.before.before.before.before.before.before.before.before.before.before.before.before.args.best.now }; y = c.before.before.before.before.before.before.before.before.before.before.before.before.before.before.args.y.now; yPlus = c.before.before.before.before.before.before.before.before.before.before.before.before.before.before.args.plus.now; w = c.before.before.before.before.before.before.before.before.before.before.before.before.before.before.args.f1.now }) c.before.before.before.before.wants.result c.before.before.before.before.wants.ensures _ _ c.before.before.before.if1.true c.before.before.waits.ensures c.refuse.ensures
+returns c = malformed_as _ _ _ c.before.before.before.before.before.before.before.before.before.before.before.before.before.before.args.v.now c.before.before.before.before.before.before.before.before.before.before.before.before.before.before.args.plan.now c.before.before.before.before.before.before.before.before.before.before.before.before.before.before.args.xi.now c.before.before.before.before.before.before.before.before.before.before.before.before.before.before.args.w.now _ c.before.before.before.before.before.before.before.before.before.before.before.before.before.before.args.k.now c.before.before.before.before.before.before.before.before.before.before.before.before.before.before.args.f.now c.before.before.before.before.before.before.before.before.before.before.before.before.before.before.args.lw.now c.before.before.before.before.before.before.before.before.before.before.before.before.before.before.args.lk.now c.before.before.before.before.before.before.before.before.before.before.before.before.before.before.args.lf.now (record { inner = record { u = c.before.before.before.before.before.before.before.before.before.before.before.before.before.before.args.u.now; plus = c.before.before.before.before.before.before.before.before.before.before.before.before.before.before.args.candidate.now; gradient = c.before.before.before.before.before.before.before.before.before.before.before.before.before.before.args.gradient.now; previous = c.before.before.before.before.before.before.before.before.before.before.before.before.before.before.args.previous.now; step = c.before.before.before.before.before.before.before.before.before.before.before.before.before.before.args.step.now; half = c.before.before.before.before.before.before.before.before.before.before.before.before.before.before.args.half.now; fpr = c.before.before.before.before.before.before.before.before.before.before.before.before.before.before.args.fpr.now; direction = c.before.before.before.before.before.before.before.before.before.before.before.before.before.before.args.direction.now; best = c.before.before.before.before.before.before.before.before.before.before.before.before.before.before.args.best.now }; y = c.before.before.before.before.before.before.before.before.before.before.before.before.before.before.args.y.now; y_plus = c.before.before.before.before.before.before.before.before.before.before.before.before.before.before.args.plus.now; w = c.before.before.before.before.before.before.before.before.before.before.before.before.before.before.args.f1.now }) c.before.before.before.before.wants.result c.before.before.before.before.wants.ensures _ _ c.before.before.before.if1.true c.before.before.waits.ensures c.refuse.ensures
 
 reply-of-requires : tie.Need-reply-of-requires
 reply-of-requires c κs = search rules
@@ -29,7 +29,7 @@ note-requires : tie.Need-note-requires
 note-requires c κs = search rules
 
 returns-2 : tie.Need-returns-2
-returns-2 c = exported_as _ _ _ _ _ _ _ _ _ _ _ c.before.before.before.before.before.before.before.if1.false c.before.before.before.before.before.before.reply-of.ensures (refused_as c.before.before.before.before.before.before.reply-of.result c.before.before.before.before.before.before.before.before.before.before.before.before.before.before.before.before.before.before.args.v.now c.before.before.before.before.before.before.before.before.before.before.before.before.before.before.before.before.before.before.args.plan.now c.before.before.before.before.before.before.before.before.before.before.before.before.before.before.before.before.before.before.args.xi.now c.before.before.before.before.before.before.before.before.before.before.before.before.before.before.before.before.before.before.args.w.now c.before.before.before.before.before.before.before.before.before.before.before.before.before.before.before.before.before.before.args.k.now c.before.before.before.before.before.before.before.before.before.before.before.before.before.before.before.before.before.before.args.f.now c.before.before.before.before.before.before.before.before.before.before.before.before.before.before.before.before.before.before.args.lw.now c.before.before.before.before.before.before.before.before.before.before.before.before.before.before.before.before.before.before.args.lk.now c.before.before.before.before.before.before.before.before.before.before.before.before.before.before.before.before.before.before.args.lf.now c.before.before.before.before.before.before.before.before.wants.result c.before.before.before.before.before.before.before.before.wants.ensures c.before.before.before.before.fits2.result c.before.before.before.refusal.result c.before.before.before.before.fits2.ensures c.before.before.before.refusal.ensures (record { inner = record { u = c.before.before.before.before.before.before.before.before.before.before.before.before.before.before.before.before.before.before.args.u.now; plus = c.before.before.before.before.before.before.before.before.before.before.before.before.before.before.before.before.before.before.args.candidate.now; gradient = c.before.before.before.before.before.before.before.before.before.before.before.before.before.before.before.before.before.before.args.gradient.now; previous = c.before.before.before.before.before.before.before.before.before.before.before.before.before.before.before.before.before.before.args.previous.now; step = c.before.before.before.before.before.before.before.before.before.before.before.before.before.before.before.before.before.before.args.step.now; half = c.before.before.before.before.before.before.before.before.before.before.before.before.before.before.before.before.before.before.args.half.now; fpr = c.before.before.before.before.before.before.before.before.before.before.before.before.before.before.before.before.before.before.args.fpr.now; direction = c.before.before.before.before.before.before.before.before.before.before.before.before.before.before.before.before.before.before.args.direction.now; best = c.before.before.before.before.before.before.before.before.before.before.before.before.before.before.before.before.before.before.args.best.now }; y = c.before.before.before.before.before.before.before.before.before.before.before.before.before.before.before.before.before.before.args.y.now; yPlus = c.before.before.before.before.before.before.before.before.before.before.before.before.before.before.before.before.before.before.args.plus.now; w = c.before.before.before.before.before.before.before.before.before.before.before.before.before.before.before.before.before.before.args.f1.now }) _ c.before.before.if2.true c.note.ensures)
+returns-2 c = exported_as _ _ _ _ _ _ _ _ _ _ _ c.before.before.before.before.before.before.before.if1.false c.before.before.before.before.before.before.reply-of.ensures (refused_as c.before.before.before.before.before.before.reply-of.result c.before.before.before.before.before.before.before.before.before.before.before.before.before.before.before.before.before.before.args.v.now c.before.before.before.before.before.before.before.before.before.before.before.before.before.before.before.before.before.before.args.plan.now c.before.before.before.before.before.before.before.before.before.before.before.before.before.before.before.before.before.before.args.xi.now c.before.before.before.before.before.before.before.before.before.before.before.before.before.before.before.before.before.before.args.w.now c.before.before.before.before.before.before.before.before.before.before.before.before.before.before.before.before.before.before.args.k.now c.before.before.before.before.before.before.before.before.before.before.before.before.before.before.before.before.before.before.args.f.now c.before.before.before.before.before.before.before.before.before.before.before.before.before.before.before.before.before.before.args.lw.now c.before.before.before.before.before.before.before.before.before.before.before.before.before.before.before.before.before.before.args.lk.now c.before.before.before.before.before.before.before.before.before.before.before.before.before.before.before.before.before.before.args.lf.now c.before.before.before.before.before.before.before.before.wants.result c.before.before.before.before.before.before.before.before.wants.ensures c.before.before.before.before.fits2.result c.before.before.before.refusal.result c.before.before.before.before.fits2.ensures c.before.before.before.refusal.ensures (record { inner = record { u = c.before.before.before.before.before.before.before.before.before.before.before.before.before.before.before.before.before.before.args.u.now; plus = c.before.before.before.before.before.before.before.before.before.before.before.before.before.before.before.before.before.before.args.candidate.now; gradient = c.before.before.before.before.before.before.before.before.before.before.before.before.before.before.before.before.before.before.args.gradient.now; previous = c.before.before.before.before.before.before.before.before.before.before.before.before.before.before.before.before.before.before.args.previous.now; step = c.before.before.before.before.before.before.before.before.before.before.before.before.before.before.before.before.before.before.args.step.now; half = c.before.before.before.before.before.before.before.before.before.before.before.before.before.before.before.before.before.before.args.half.now; fpr = c.before.before.before.before.before.before.before.before.before.before.before.before.before.before.before.before.before.before.args.fpr.now; direction = c.before.before.before.before.before.before.before.before.before.before.before.before.before.before.before.before.before.before.args.direction.now; best = c.before.before.before.before.before.before.before.before.before.before.before.before.before.before.before.before.before.before.args.best.now }; y = c.before.before.before.before.before.before.before.before.before.before.before.before.before.before.before.before.before.before.args.y.now; y_plus = c.before.before.before.before.before.before.before.before.before.before.before.before.before.before.before.before.before.before.args.plus.now; w = c.before.before.before.before.before.before.before.before.before.before.before.before.before.before.before.before.before.before.args.f1.now }) _ c.before.before.if2.true c.note.ensures)
 
 answer-accepted-requires : tie.Need-answer-accepted-requires
 answer-accepted-requires c κs = accepted_as c.before.before.before.before.before.before.before.before.before.before.before.before.before.before.before.before.before.before.before.before.before.before.before.before.reply-of.result c.before.before.before.before.before.before.before.before.before.before.before.before.before.before.before.before.before.before.before.before.before.before.before.before.before.before.before.before.before.before.before.before.before.before.before.before.args.v.now c.before.before.before.before.before.before.before.before.before.before.before.before.before.before.before.before.before.before.before.before.before.before.before.before.before.before.before.before.before.before.before.before.before.before.before.before.args.plan.now c.before.before.before.before.before.before.before.before.before.before.before.before.before.before.before.before.before.before.before.before.before.before.before.before.before.before.before.before.before.before.before.before.before.before.before.before.args.xi.now c.before.before.before.before.before.before.before.before.before.before.before.before.before.before.before.before.before.before.before.before.before.before.before.before.before.before.before.before.before.before.before.before.before.before.before.before.args.w.now c.before.before.before.before.before.before.before.before.before.before.before.before.before.before.before.before.before.before.before.before.before.before.before.before.before.before.before.before.before.before.before.before.before.before.before.before.args.k.now c.before.before.before.before.before.before.before.before.before.before.before.before.before.before.before.before.before.before.before.before.before.before.before.before.before.before.before.before.before.before.before.before.before.before.before.before.args.f.now c.before.before.before.before.before.before.before.before.before.before.before.before.before.before.before.before.before.before.before.before.before.before.before.before.before.before.before.before.before.before.before.before.before.before.before.before.args.lw.now c.before.before.before.before.before.before.before.before.before.before.before.before.before.before.before.before.before.before.before.before.before.before.before.before.before.before.before.before.before.before.before.before.before.before.before.before.args.lk.now c.before.before.before.before.before.before.before.before.before.before.before.before.before.before.before.before.before.before.before.before.before.before.before.before.before.before.before.before.before.before.before.before.before.before.before.before.args.lf.now c.before.before.before.before.before.before.before.before.before.before.before.before.before.before.before.before.before.before.before.before.before.before.before.before.before.before.wants.result c.before.before.before.before.before.before.before.before.before.before.before.before.before.before.before.before.before.before.before.before.before.before.before.before.before.before.wants.ensures c.before.before.before.before.before.before.before.before.before.before.before.before.before.before.before.before.before.before.before.before.before.before.fits2.result c.before.before.before.before.before.before.before.before.before.before.before.before.before.before.before.before.before.before.before.before.before.refusal.result c.before.before.before.before.before.before.before.before.before.before.before.before.before.before.before.before.before.before.before.before.before.before.fits2.ensures c.before.before.before.before.before.before.before.before.before.before.before.before.before.before.before.before.before.before.before.before.before.refusal.ensures c.before.before.before.before.before.before.before.before.before.before.before.before.before.before.before.before.before.before.before.before.if2.false
