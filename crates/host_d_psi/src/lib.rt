@@ -1,4 +1,6 @@
 // An answer to d_psi, the gradient of psi, for C, as the crate host has it for the inner solve.
+#![tactic(auto)]
+
 ghost use Rattle.factory.specs.FactoryBoard.{DPsiBoard, d_psi_run_of, d_psi_gave, d_psi_five};
 ghost use Rattle.factory.specs.FactoryCalls.{DPsiAnswers};
 ghost use Rattle.psi_image.specs.PsiImage.{d_psi_of, d_psi_step_of};

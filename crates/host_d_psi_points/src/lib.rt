@@ -1,4 +1,6 @@
 // The points of a question of d_psi, the gradient of psi, for C, as the crate host_points has those of the inner solve.
+#![tactic(auto)]
+
 ghost use Rattle.factory.specs.FactoryBoard.{DPsiBoard, d_psi_run_of, d_psi_utd};
 ghost use Rattle.factory.specs.FactoryCalls.{Points};
 ghost use Rattle.factory.specs.FactoryRest.{d_psi_rest};

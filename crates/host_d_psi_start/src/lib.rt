@@ -1,4 +1,6 @@
 // The start of d_psi, the gradient of psi, for C, as the crate host_start has that of the inner solve.
+#![tactic(auto)]
+
 ghost use Rattle.factory.specs.FactoryBoard.{DPsiBoard, d_psi_gave, d_psi_uy};
 ghost use Rattle.factory.specs.FactoryCalls.{DPsiStarts};
 ghost use Rattle.psi_image.specs.PsiImage.{d_psi_step_of};

@@ -1,4 +1,6 @@
 // The start of a multiplier loop for C.
+#![tactic(auto)]
+
 ghost use Rattle.alm_core.specs.Rest.{LoopBoard};
 ghost use Rattle.alm_core.specs.Board.{set_u, set_y, set_y_plus};
 ghost use Rattle.alm_calls.specs.LoopCalls.{Begins};

@@ -1,4 +1,6 @@
 // The points of an inner solve's question for C: copied, and where the first lies.
+#![tactic(auto)]
+
 ghost use Rattle.std.specs.Prelude.{ℕ, ◌≡◌, List, Float};
 ghost use Rattle.panoc_core.specs.Board.{Board, run_of, asked};
 ghost use Rattle.panoc_core.specs.Calls.{Points};

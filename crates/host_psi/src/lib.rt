@@ -1,4 +1,6 @@
 // An answer to psi, the penalty function, for C, as the crate host has it for the inner solve.
+#![tactic(auto)]
+
 ghost use Rattle.factory.specs.FactoryBoard.{PsiBoard, psi_run_of, psi_gave, psi_ytw};
 ghost use Rattle.factory.specs.FactoryCalls.{PsiAnswers};
 ghost use Rattle.psi_image.specs.PsiImage.{psi_of, psi_step_of};

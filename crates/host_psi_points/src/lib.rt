@@ -1,4 +1,6 @@
 // The point of a question of psi, the penalty function, for C, as the crate host_points has those of the inner solve.
+#![tactic(auto)]
+
 ghost use Rattle.factory.specs.FactoryBoard.{PsiBoard, psi_run_of, psi_ut};
 ghost use Rattle.factory.specs.FactoryCalls.{Points};
 ghost use Rattle.factory.specs.FactoryRest.{psi_rest};

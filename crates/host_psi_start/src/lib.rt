@@ -1,4 +1,6 @@
 // The start of psi, the penalty function, for C, as the crate host_start has that of the inner solve.
+#![tactic(auto)]
+
 ghost use Rattle.factory.specs.FactoryBoard.{PsiBoard, psi_gave, psi_uy};
 ghost use Rattle.factory.specs.FactoryCalls.{PsiStarts};
 ghost use Rattle.psi_image.specs.PsiImage.{psi_step_of};

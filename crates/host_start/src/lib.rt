@@ -1,4 +1,6 @@
 // The start of an inner solve for C.
+#![tactic(auto)]
+
 ghost use Rattle.panoc_core.specs.Board.{Board, Begins, set_u};
 ghost use Rattle.image.specs.Image.{settings_given, step_of};
 

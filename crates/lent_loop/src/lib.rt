@@ -1,4 +1,6 @@
 // What follows an answer to a loop on lent numbers that nothing refuses: while the inner solve asks on, its own numbers alone are stored.
+#![tactic(auto)]
+
 ghost use Rattle.std.specs.Prelude.{◌≡◌, ◌≤◌, length, get_or};
 ghost use Rattle.alm_core.specs.Board.{Ready, EndsWithin};
 ghost use Rattle.image.specs.Image as I;

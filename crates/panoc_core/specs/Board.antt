@@ -1,6 +1,6 @@
 -- A run in place: its small part by value, and its vectors where they are lent. Definitions only.
 use Rattle.std.specs.Prelude.{ℕ, ◌≡◌, List, Bool, true, false, cond, Float}
-use Rattle.std.specs.Borrow.{Bor}
+use Rattle.std.specs.Borrow.{MutBor}
 use denote.Triple.Both.{Both}
 use Rattle.std.proofs.Math.Option.{Option, none, some}
 use Rattle.std.specs.Float.{binary64}
@@ -61,7 +61,7 @@ gave r b = record { outcome = r.outcome; run = run_of r.solve b }
 
 -- a lent array, as a contract sees it
 abbrev pub Lent : Type 0
-Lent = Both (Bor (List Float)) (Bor (List Float))
+Lent = Both (MutBor (List Float)) (MutBor (List Float))
 
 abbrev pub before : Lent → Lent → Lent → Lent → Lent → Lent → Lent → Lent → Lent → Board
 before u w g p t h r d b =
