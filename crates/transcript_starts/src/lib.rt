@@ -1,4 +1,6 @@
 // The calls of the transcript program that start a run.
+#![tactic(auto)]
+
 ghost use Rattle.std.specs.Prelude.{◌+◌, ◌≤◌, length};
 
 pub mod opened;
@@ -85,9 +87,9 @@ fn solves(p: Play, command: Command, v: &[f64], w: &[f64], out: &mut [u8]) -> Pl
 }
 
 // The lent places of u after a start: those of d_psi hold zeros.
-fn lent_first(p: Play, v: &[f64], u: &mut [f64]) {
+fn lent_first(kind: usize, v: &[f64], u: &mut [f64]) {
     keep(v, u);
-    if p.kind == transcript_state::D_PSI {
+    if kind == transcript_state::D_PSI {
         clear(u, 0);
     }
 }
@@ -106,7 +108,7 @@ pub fn starts(
     ensures { result.at ≤ p.session.at + 4500 }
 {
     let r = solves(p, command, v, w, out);
-    lent_first(r, v, u);
+    lent_first(r.kind, v, u);
     keep(w, xi);
     r
 }
