@@ -11,14 +11,12 @@ fn line_end(buf: &[u8], from: usize, have: usize) -> usize
     requires { (from ≤ have) × (have ≤ length buf.now) }
     ensures { (from ≤ result) × (result ≤ have) }
 {
-    let mut i = from;
-    while i < have {
+    for i in from..have {
         if buf[i] == b'\n' {
             return i;
         }
-        i += 1;
     }
-    i
+    have
 }
 
 // The line between two places is at hand.

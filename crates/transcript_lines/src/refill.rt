@@ -28,10 +28,8 @@ fn fill(rt: &impl Input, buf: &mut [u8], have: usize) -> io::Result<usize>
 fn shift(buf: &mut [u8], from: usize, n: usize)
     requires { from + n ≤ length buf.old }
 {
-    let mut i = 0usize;
-    while i < n {
+    for i in 0..n {
         buf[i] = buf[from + i];
-        i += 1;
     }
 }
 
