@@ -13,7 +13,7 @@ use transcript_state::Play;
 use transcript_state::asides::aside;
 
 // Whether a command starts a run.
-fn is_start(command: Command) -> bool {
+fn is_start(command: &Command) -> bool {
     match command {
         Command::Inner(_) => true,
         Command::Loop(_) => true,
@@ -36,7 +36,7 @@ fn unanswered(
     requires { (p.session.at + 4500 ≤ length out.old) × (length u.old ≤ 128) × (length xi.old ≤ 128) }
     ensures { result.at ≤ p.session.at + 4500 }
 {
-    if is_start(command) {
+    if is_start(&command) {
         return starts(p, command, v, w, u, xi, out);
     }
     aside(p, command, u, xi, out)
