@@ -19,8 +19,8 @@ fn start_inner(p: Play, set: InnerStart, v: &[f64], out: &mut [u8]) -> Play
     ensures { result.at ≤ p.session.at + 4500 }
 {
     let r = panoc_starts::start(inner_settings(set), v);
-    let at = transcript_inner::put_answered(r, out, p.session.at);
     let run = r.run;
+    let at = transcript_inner::put_answered(r, out, p.session.at);
     let t = with_inner(p, run, at);
     opens(t, transcript_state::INNER, v.len(), 0)
 }
@@ -31,8 +31,8 @@ fn start_loop(p: Play, set: LoopStart, v: &[f64], w: &[f64], out: &mut [u8]) -> 
     ensures { result.at ≤ p.session.at + 4500 }
 {
     let r = alm_starts::start(loop_settings(set), v, w);
-    let at = transcript_loop::put_answered(r, out, p.session.at);
     let run = r.run;
+    let at = transcript_loop::put_answered(r, out, p.session.at);
     let t = with_loop(p, run, at);
     opens(t, transcript_state::LOOP, v.len(), w.len())
 }
@@ -43,8 +43,8 @@ fn start_psi(p: Play, set: PsiStart, v: &[f64], w: &[f64], out: &mut [u8]) -> Pl
     ensures { result.at ≤ p.session.at + 4500 }
 {
     let r = psi_starts::start(sizes(set), v, w);
-    let at = transcript_psi::psi_printing::put_answered(r, out, p.session.at);
     let run = r.run;
+    let at = transcript_psi::psi_printing::put_answered(r, out, p.session.at);
     let t = with_psi(p, run, at);
     opens(t, transcript_state::PSI, v.len(), w.len())
 }
@@ -56,8 +56,8 @@ fn start_d_psi(p: Play, set: PsiStart, v: &[f64], w: &[f64], out: &mut [u8]) -> 
 {
     let sizes = sizes(set);
     let r = d_psi_starts::start(sizes, v, w);
-    let at = transcript_psi::d_psi_printing::put_answered(r, out, p.session.at);
     let run = r.run;
+    let at = transcript_psi::d_psi_printing::put_answered(r, out, p.session.at);
     let t = with_d_psi(p, run, at);
     opens(t, transcript_state::D_PSI, least(sizes.n, 128), w.len())
 }
