@@ -1,11 +1,16 @@
 // Two heaters with a bound on F1 and an equation F2, played by hand: a loop, then psi and d_psi at what it handed back.
 // tests/loop_by_hand.py made the stdout from what the Rust prints (`oracle expect`).
+#![tactic(auto)]
+
 mod outer;
 
-fn main() {
-    let end = outer::play();
+use std::io;
+
+fn main(rt: HostRuntime) -> io::Result<()> {
+    let end = outer::play(&rt)?;
     let u = end.plan;
     let xi = end.xi;
-    penalty_by_hand::value::play(u, xi, true);
-    penalty_by_hand::slope::play(u, xi, true);
+    penalty_by_hand::value::play(&rt, u, xi, true)?;
+    penalty_by_hand::slope::play(&rt, u, xi, true)?;
+    Ok(())
 }

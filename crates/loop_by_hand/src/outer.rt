@@ -8,6 +8,7 @@ use alm_starts::start;
 use panoc_core::panoc_cache::{Question, Reply};
 use penalty_by_hand::given::{Given, on_f1, on_f2, on_project_c, short, vector};
 use penalty_by_hand::{kiln, slope, value};
+use std::io;
 
 // The plan and the penalty with the multiplier that are lent.
 #[derive(Drop)]
@@ -40,107 +41,115 @@ fn both(run: AlmRun) -> Places {
     Places { plan, xi }
 }
 
-fn on_cost(at: Places) -> Given {
+fn on_cost(rt: &impl Print, at: Places) -> io::Result<Given> {
     let u = at.plan;
     let xi = at.xi;
-    shown::two_points(b"cost", &u, b" xi", &xi);
-    short(Reply::Number(value::play(u, xi, false)), 0.0)
+    shown::two_points(rt, b"cost", &u, b" xi", &xi)?;
+    let x = value::play(rt, u, xi, false)?;
+    Ok(short(Reply::Number(x), 0.0))
 }
 
-fn on_gradient(at: Places) -> Given {
+fn on_gradient(rt: &impl Print, at: Places) -> io::Result<Given> {
     let u = at.plan;
     let xi = at.xi;
-    shown::two_points(b"gradient", &u, b" xi", &xi);
-    vector(slope::play(u, xi, false))
+    shown::two_points(rt, b"gradient", &u, b" xi", &xi)?;
+    let v = slope::play(rt, u, xi, false)?;
+    Ok(vector(v))
 }
 
 // The direction is the residual.
-fn on_direction(at: Places, forget: bool) -> Given {
+fn on_direction(rt: &impl Print, at: Places, forget: bool) -> io::Result<Given> {
     let residual = at.plan;
     let u = at.xi;
-    shown::direction(forget, &residual, &u);
-    vector(residual)
+    shown::direction(rt, forget, &residual, &u)?;
+    Ok(vector(residual))
 }
 
-fn on_project(p: [f64; 2]) -> Given {
-    shown::line(b"project", &p);
-    vector(kiln::project(p))
+fn on_project(rt: &impl Print, p: [f64; 2]) -> io::Result<Given> {
+    shown::line(rt, b"project", &p)?;
+    Ok(vector(kiln::project(p)))
 }
 
-fn on_time() -> Given {
-    shown::word(b"time\n");
-    short(Reply::Yes, 0.0)
+fn on_time(rt: &impl Print) -> io::Result<Given> {
+    shown::word(rt, b"time\n")?;
+    Ok(short(Reply::Yes, 0.0))
 }
 
-fn on_project_y(p: [f64; 1]) -> Given {
-    shown::line(b"project_y", &p);
-    short(Reply::Vector, kiln::project_y(p[0]))
+fn on_project_y(rt: &impl Print, p: [f64; 1]) -> io::Result<Given> {
+    shown::line(rt, b"project_y", &p)?;
+    Ok(short(Reply::Vector, kiln::project_y(p[0])))
 }
 
 // The answer to a question of the inner solve, which is printed with its points.
-fn inner_given(run: AlmRun, question: Question) -> Given {
+fn inner_given(rt: &impl Print, run: AlmRun, question: Question) -> io::Result<Given> {
     let at = both(run);
     match question {
-        Question::Cost => on_cost(at),
-        Question::Gradient => on_gradient(at),
-        Question::Project => on_project(point(run)),
-        Question::Direction(forget) => on_direction(at, forget),
-        Question::Time => on_time(),
+        Question::Cost => on_cost(rt, at),
+        Question::Gradient => on_gradient(rt, at),
+        Question::Project => on_project(rt, point(run)),
+        Question::Direction(forget) => on_direction(rt, at, forget),
+        Question::Time => on_time(rt),
     }
 }
 
 // The answer to a question of the loop, which is printed with its points.
-fn loop_given(run: AlmRun, question: AlmQuestion) -> Given {
+fn loop_given(rt: &impl Print, run: AlmRun, question: AlmQuestion) -> io::Result<Given> {
     match question {
-        AlmQuestion::Inner(inner) => inner_given(run, inner),
-        AlmQuestion::Time => on_time(),
-        AlmQuestion::ProjectY => on_project_y(point_of_one(run)),
-        AlmQuestion::F1 => on_f1(point(run), true),
-        AlmQuestion::ProjectC => on_project_c(point_of_one(run), true),
-        AlmQuestion::F2 => on_f2(point(run), true),
-        AlmQuestion::Cost => on_cost(both(run)),
+        AlmQuestion::Inner(inner) => inner_given(rt, run, inner),
+        AlmQuestion::Time => on_time(rt),
+        AlmQuestion::ProjectY => on_project_y(rt, point_of_one(run)),
+        AlmQuestion::F1 => on_f1(rt, point(run), true),
+        AlmQuestion::ProjectC => on_project_c(rt, point_of_one(run), true),
+        AlmQuestion::F2 => on_f2(rt, point(run), true),
+        AlmQuestion::Cost => on_cost(rt, both(run)),
     }
 }
 
 // A question of the loop, answered.
-fn turn(run: AlmRun, question: AlmQuestion, plan: &mut [f64; 2], xi: &mut [f64; 2]) -> AlmAnswered {
-    let g = loop_given(run, question);
+fn turn(
+    rt: &impl Print,
+    run: AlmRun,
+    question: AlmQuestion,
+    plan: &mut [f64; 2],
+    xi: &mut [f64; 2],
+) -> io::Result<AlmAnswered> {
+    let g = loop_given(rt, run, question)?;
     let reply = g.reply;
     let v = g.v;
     if g.short {
-        answer(run, reply, &[v[0]], plan, xi)
+        Ok(answer(run, reply, &[v[0]], plan, xi))
     } else {
-        answer(run, reply, &v, plan, xi)
+        Ok(answer(run, reply, &v, plan, xi))
     }
 }
 
-fn print_end(status: AlmOptimizerStatus) {
+fn print_end(rt: &impl Print, status: AlmOptimizerStatus) -> io::Result<()> {
     let exit = status.exit_status;
     let outer = status.num_outer_iterations;
     let inner = status.num_inner_iterations;
-    shown::exit_status(exit);
-    shown::whole(outer.0);
-    shown::whole(inner.0);
-    shown::float(status.last_problem_norm_fpr);
-    shown::float(status.cost);
-    shown::float(status.penalty);
-    shown::float(status.delta_y_norm);
-    shown::float(status.f2_norm);
-    shown::word(b"\n");
+    shown::exit_status(rt, exit)?;
+    shown::whole(rt, outer.0)?;
+    shown::whole(rt, inner.0)?;
+    shown::float(rt, status.last_problem_norm_fpr)?;
+    shown::float(rt, status.cost)?;
+    shown::float(rt, status.penalty)?;
+    shown::float(rt, status.delta_y_norm)?;
+    shown::float(rt, status.f2_norm)?;
+    shown::word(rt, b"\n")
 }
 
-fn print_outcome(outcome: AlmOutcome) {
+fn print_outcome(rt: &impl Print, outcome: AlmOutcome) -> io::Result<()> {
     match outcome {
-        AlmOutcome::Asked(_) => {}
-        AlmOutcome::Ended(status) => print_end(status),
-        AlmOutcome::Refused(number) => shown::refused(number),
-        AlmOutcome::Failed(_) => shown::refused(9),
+        AlmOutcome::Asked(_) => Ok(()),
+        AlmOutcome::Ended(status) => print_end(rt, status),
+        AlmOutcome::Refused(number) => shown::refused(rt, number),
+        AlmOutcome::Failed(_) => shown::refused(rt, 9),
     }
 }
 
 // The lent places.
-fn print_lent(plan: [f64; 2], xi: [f64; 2]) {
-    shown::two_points(b"lent", &plan, b" xi", &xi);
+fn print_lent(rt: &impl Print, plan: [f64; 2], xi: [f64; 2]) -> io::Result<()> {
+    shown::two_points(rt, b"lent", &plan, b" xi", &xi)
 }
 
 fn settings() -> AlmSettings {
@@ -163,22 +172,20 @@ fn settings() -> AlmSettings {
 }
 
 // M is 5 and K is 3, so 3 × (35 + 56 × 5) + 1 turns are enough.
-pub fn play() -> Places {
+pub fn play(rt: &impl Print) -> io::Result<Places> {
     let mut plan = [0.5, 0.5];
     let mut xi = [2.0, 0.5];
     let set = settings();
     let mut last = start(set, &plan, &xi);
-    let mut turns = 946u64;
-    while turns > 0 {
+    for _ in 0..946 {
         let outcome = last.outcome;
         let AlmOutcome::Asked(question) = outcome else {
-            print_outcome(outcome);
-            print_lent(plan, xi);
-            return Places { plan, xi };
+            print_outcome(rt, outcome)?;
+            print_lent(rt, plan, xi)?;
+            return Ok(Places { plan, xi });
         };
         let run = last.run;
-        last = turn(run, question, &mut plan, &mut xi);
-        turns -= 1;
+        last = turn(rt, run, question, &mut plan, &mut xi)?;
     }
-    Places { plan, xi }
+    Ok(Places { plan, xi })
 }

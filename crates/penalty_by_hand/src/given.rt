@@ -1,6 +1,7 @@
 // An answer as a value, and the answers that psi, d_psi and the loop have alike.
 use crate::{kiln, tell};
 use panoc_core::panoc_cache::Reply;
+use std::io;
 
 // Of v both places count, or the first alone where it is short.
 #[derive(Drop)]
@@ -28,17 +29,17 @@ pub fn short(reply: Reply, x: f64) -> Given {
     }
 }
 
-pub fn on_f1(u: [f64; 2], aloud: bool) -> Given {
-    tell(aloud, b"f1", &u);
-    short(Reply::Vector, kiln::f1(u))
+pub fn on_f1(rt: &impl Print, u: [f64; 2], aloud: bool) -> io::Result<Given> {
+    tell(rt, aloud, b"f1", &u)?;
+    Ok(short(Reply::Vector, kiln::f1(u)))
 }
 
-pub fn on_f2(u: [f64; 2], aloud: bool) -> Given {
-    tell(aloud, b"f2", &u);
-    short(Reply::Vector, kiln::f2(u))
+pub fn on_f2(rt: &impl Print, u: [f64; 2], aloud: bool) -> io::Result<Given> {
+    tell(rt, aloud, b"f2", &u)?;
+    Ok(short(Reply::Vector, kiln::f2(u)))
 }
 
-pub fn on_project_c(t: [f64; 1], aloud: bool) -> Given {
-    tell(aloud, b"project_c", &t);
-    short(Reply::Vector, kiln::project_c(t[0]))
+pub fn on_project_c(rt: &impl Print, t: [f64; 1], aloud: bool) -> io::Result<Given> {
+    tell(rt, aloud, b"project_c", &t)?;
+    Ok(short(Reply::Vector, kiln::project_c(t[0])))
 }

@@ -1,5 +1,8 @@
 // psi and d_psi of the model at u and xi, as runs; their questions are printed where they are to be shown.
+#![tactic(auto)]
+
 use factory::alm_factory::Sizes;
+use std::io;
 
 pub mod given;
 pub mod kiln;
@@ -7,10 +10,11 @@ pub mod slope;
 pub mod value;
 
 // A question and its point.
-pub fn tell(aloud: bool, name: &[u8], v: &[f64]) {
+pub fn tell(rt: &impl Print, aloud: bool, name: &[u8], v: &[f64]) -> io::Result<()> {
     if aloud {
-        shown::line(name, v);
+        shown::line(rt, name, v)?;
     }
+    Ok(())
 }
 
 // n, n1 and n2.

@@ -6,6 +6,7 @@ use d_psi_points::points;
 use d_psi_starts::start;
 use factory::alm_factory::{DPsiAnswered, DPsiOutcome, DPsiRun, PsiQuestion};
 use panoc_core::panoc_cache::Reply;
+use std::io;
 
 // The point of a question that is asked at u alone; zeros at any other.
 fn at_u(run: DPsiRun) -> [f64; 2] {
@@ -37,77 +38,93 @@ fn at_both(run: DPsiRun) -> Product {
     Product { u, d }
 }
 
-fn on_gradient(u: [f64; 2], aloud: bool) -> Given {
-    tell(aloud, b"gradient", &u);
-    vector(kiln::gradient(u))
+fn on_gradient(rt: &impl Print, u: [f64; 2], aloud: bool) -> io::Result<Given> {
+    tell(rt, aloud, b"gradient", &u)?;
+    Ok(vector(kiln::gradient(u)))
 }
 
 // A product and its points.
-fn tell_product(aloud: bool, name: &[u8], u: [f64; 2], d: [f64; 1]) {
+fn tell_product(
+    rt: &impl Print,
+    aloud: bool,
+    name: &[u8],
+    u: [f64; 2],
+    d: [f64; 1],
+) -> io::Result<()> {
     if aloud {
-        shown::two_points(name, &u, b" d", &d);
+        shown::two_points(rt, name, &u, b" d", &d)?;
     }
+    Ok(())
 }
 
-fn on_jf1t(p: Product, aloud: bool) -> Given {
+fn on_jf1t(rt: &impl Print, p: Product, aloud: bool) -> io::Result<Given> {
     let u = p.u;
     let d = p.d;
-    tell_product(aloud, b"jf1t", u, d);
-    vector(kiln::jf1t(u, d[0]))
+    tell_product(rt, aloud, b"jf1t", u, d)?;
+    Ok(vector(kiln::jf1t(u, d[0])))
 }
 
-fn on_jf2t(p: Product, aloud: bool) -> Given {
+fn on_jf2t(rt: &impl Print, p: Product, aloud: bool) -> io::Result<Given> {
     let u = p.u;
     let d = p.d;
-    tell_product(aloud, b"jf2t", u, d);
-    vector(kiln::jf2t(d[0]))
+    tell_product(rt, aloud, b"jf2t", u, d)?;
+    Ok(vector(kiln::jf2t(d[0])))
 }
 
 // The answer to a question; d_psi asks no cost.
-fn given_to(run: DPsiRun, question: PsiQuestion, aloud: bool) -> Given {
+fn given_to(
+    rt: &impl Print,
+    run: DPsiRun,
+    question: PsiQuestion,
+    aloud: bool,
+) -> io::Result<Given> {
     let u = at_u(run);
     match question {
-        PsiQuestion::Cost => short(Reply::Failure(0), 0.0),
-        PsiQuestion::Gradient => on_gradient(u, aloud),
-        PsiQuestion::F1 => on_f1(u, aloud),
-        PsiQuestion::ProjectC => on_project_c(at_t(run), aloud),
-        PsiQuestion::Jf1t => on_jf1t(at_both(run), aloud),
-        PsiQuestion::F2 => on_f2(u, aloud),
-        PsiQuestion::Jf2t => on_jf2t(at_both(run), aloud),
+        PsiQuestion::Cost => Ok(short(Reply::Failure(0), 0.0)),
+        PsiQuestion::Gradient => on_gradient(rt, u, aloud),
+        PsiQuestion::F1 => on_f1(rt, u, aloud),
+        PsiQuestion::ProjectC => on_project_c(rt, at_t(run), aloud),
+        PsiQuestion::Jf1t => on_jf1t(rt, at_both(run), aloud),
+        PsiQuestion::F2 => on_f2(rt, u, aloud),
+        PsiQuestion::Jf2t => on_jf2t(rt, at_both(run), aloud),
     }
 }
 
 // A question of d_psi, answered.
-fn turn(run: DPsiRun, question: PsiQuestion, res: &mut [f64; 2], aloud: bool) -> DPsiAnswered {
-    let g = given_to(run, question, aloud);
+fn turn(
+    rt: &impl Print,
+    run: DPsiRun,
+    question: PsiQuestion,
+    res: &mut [f64; 2],
+    aloud: bool,
+) -> io::Result<DPsiAnswered> {
+    let g = given_to(rt, run, question, aloud)?;
     let reply = g.reply;
     let v = g.v;
     if g.short {
-        answer(run, reply, &[v[0]], res)
+        Ok(answer(run, reply, &[v[0]], res))
     } else {
-        answer(run, reply, &v, res)
+        Ok(answer(run, reply, &v, res))
     }
 }
 
 // The end, with the result.
-fn tell_end(aloud: bool, res: [f64; 2]) {
-    tell(aloud, b"ended", &res);
+fn tell_end(rt: &impl Print, aloud: bool, res: [f64; 2]) -> io::Result<()> {
+    tell(rt, aloud, b"ended", &res)
 }
 
 // d_psi asks at most 6 questions; the result is what its end left in the lent slice.
-pub fn play(u: [f64; 2], xi: [f64; 2], aloud: bool) -> [f64; 2] {
+pub fn play(rt: &impl Print, u: [f64; 2], xi: [f64; 2], aloud: bool) -> io::Result<[f64; 2]> {
     let mut result = [0.0; 2];
     let mut last = start(sizes(), &u, &xi);
-    let mut turns = 6u64;
-    while turns > 0 {
+    for _ in 0..6 {
         let outcome = last.outcome;
         let DPsiOutcome::Asked(question) = outcome else {
-            return result;
+            return Ok(result);
         };
         let run = last.run;
-        last = turn(run, question, &mut result, aloud);
-        turns -= 1;
+        last = turn(rt, run, question, &mut result, aloud)?;
     }
-    tell_end(aloud, result);
-    result
+    tell_end(rt, aloud, result)?;
+    Ok(result)
 }

@@ -6,6 +6,7 @@ use panoc_core::panoc_cache::Reply;
 use psi::answer;
 use psi_points::points;
 use psi_starts::start;
+use std::io;
 
 // The point of a question that is asked at u; zeros at any other.
 fn at_u(run: PsiRun) -> [f64; 2] {
@@ -23,29 +24,34 @@ fn at_t(run: PsiRun) -> [f64; 1] {
     first
 }
 
-fn on_cost(u: [f64; 2], aloud: bool) -> Given {
-    tell(aloud, b"cost", &u);
-    short(Reply::Number(kiln::cost(u)), 0.0)
+fn on_cost(rt: &impl Print, u: [f64; 2], aloud: bool) -> io::Result<Given> {
+    tell(rt, aloud, b"cost", &u)?;
+    Ok(short(Reply::Number(kiln::cost(u)), 0.0))
 }
 
 // The answer to a question; psi asks no gradient and no product.
-fn given_to(run: PsiRun, question: PsiQuestion, aloud: bool) -> Given {
+fn given_to(rt: &impl Print, run: PsiRun, question: PsiQuestion, aloud: bool) -> io::Result<Given> {
     let u = at_u(run);
     match question {
-        PsiQuestion::Cost => on_cost(u, aloud),
-        PsiQuestion::F1 => on_f1(u, aloud),
-        PsiQuestion::ProjectC => on_project_c(at_t(run), aloud),
-        PsiQuestion::F2 => on_f2(u, aloud),
-        _ => short(Reply::Failure(0), 0.0),
+        PsiQuestion::Cost => on_cost(rt, u, aloud),
+        PsiQuestion::F1 => on_f1(rt, u, aloud),
+        PsiQuestion::ProjectC => on_project_c(rt, at_t(run), aloud),
+        PsiQuestion::F2 => on_f2(rt, u, aloud),
+        _ => Ok(short(Reply::Failure(0), 0.0)),
     }
 }
 
 // A question of psi, answered; every vector that it asks for has one place.
-fn turn(run: PsiRun, question: PsiQuestion, aloud: bool) -> PsiAnswered {
-    let g = given_to(run, question, aloud);
+fn turn(
+    rt: &impl Print,
+    run: PsiRun,
+    question: PsiQuestion,
+    aloud: bool,
+) -> io::Result<PsiAnswered> {
+    let g = given_to(rt, run, question, aloud)?;
     let reply = g.reply;
     let v = g.v;
-    answer(run, reply, &[v[0]])
+    Ok(answer(run, reply, &[v[0]]))
 }
 
 // The number of an end.
@@ -57,21 +63,19 @@ fn value(outcome: PsiOutcome) -> f64 {
 }
 
 // psi asks at most 4 questions.
-pub fn play(u: [f64; 2], xi: [f64; 2], aloud: bool) -> f64 {
+pub fn play(rt: &impl Print, u: [f64; 2], xi: [f64; 2], aloud: bool) -> io::Result<f64> {
     let mut last = start(sizes(), &u, &xi);
-    let mut turns = 4u64;
-    while turns > 0 {
+    for _ in 0..4 {
         let outcome = last.outcome;
         let PsiOutcome::Asked(question) = outcome else {
-            return 0.0;
+            return Ok(0.0);
         };
         let run = last.run;
-        last = turn(run, question, aloud);
-        turns -= 1;
+        last = turn(rt, run, question, aloud)?;
     }
     let outcome = last.outcome;
     let x = value(outcome);
     let end = [x];
-    tell(aloud, b"ended", &end);
-    x
+    tell(rt, aloud, b"ended", &end)?;
+    Ok(x)
 }

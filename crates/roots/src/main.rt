@@ -1,7 +1,10 @@
 // Reads patterns of `f64`, 16 hexadecimal digits to a line, and writes each with the pattern of its root.
-ghost use Rattle.std.specs.Prelude.{◌<◌};
+#![tactic(auto)]
 
-use libc::{STDIN_FILENO, STDOUT_FILENO};
+ghost use Rattle.std.specs.Prelude.{◌<◌, ◌≤◌, length, IfOk};
+
+use std::io;
+use std::io::Read;
 
 const INFINITY: u64 = 9218868437227405312;
 
@@ -23,10 +26,8 @@ fn digit(c: u8) -> u64
 
 fn pattern(line: [u8; 17]) -> u64 {
     let mut b = 0u64;
-    let mut i = 0usize;
-    while i < 16 {
+    for i in 0..16 {
         b = b % 1152921504606846976 * 16 + digit(line[i]);
-        i += 1;
     }
     b
 }
@@ -45,24 +46,41 @@ fn to_bits(x: f64) -> u64 {
     f64::to_bits(x)
 }
 
-// Reads a line and writes its answer; false at the end of the input.
-fn answer_one() -> bool {
-    let mut line = [0u8; 17];
-    let n = io::read_full(STDIN_FILENO, &mut line);
-    if n < 16 {
-        return false;
+// Reads until the buffer is full or the input ends, and gives how many bytes came.
+fn read_full(input: &mut impl Read, buf: &mut [u8]) -> io::Result<usize>
+    ensures { IfOk result (λ n. n ≤ length buf.new) }
+{
+    let mut done = 0usize;
+    while done < buf.len() {
+        let n = input.read(&mut buf[done..])?;
+        if n == 0 {
+            break;
+        }
+        done += n;
     }
-    let b = pattern(line);
-    io::print_hex(STDOUT_FILENO, b, 16);
-    io::write_all(STDOUT_FILENO, b" ");
-    io::print_hex(STDOUT_FILENO, to_bits(numeric::sqrt(of_bits(b))), 16);
-    io::write_all(STDOUT_FILENO, b"\n")
+    Ok(done)
 }
 
-// A loop has to end and nothing says that the input does, so it counts its turns down.
-fn main() {
-    let mut turns = 1000000u64;
-    while turns > 0 && answer_one() {
-        turns -= 1;
+// Reads a line and writes its answer; false at the end of the input.
+fn answer_one(rt: &impl Print, input: &mut impl Read) -> io::Result<bool> {
+    let mut line = [0u8; 17];
+    let n = read_full(input, &mut line)?;
+    if n < 16 {
+        return Ok(false);
     }
+    let b = pattern(line);
+    let root = to_bits(numeric::sqrt(of_bits(b)));
+    println!(rt; "{b:016x} {root:016x}")?;
+    Ok(true)
+}
+
+// A loop has to end and nothing says that the input does, so it counts its turns.
+fn main(rt: HostRuntime) -> io::Result<()> {
+    let mut input = rt.reader();
+    for _ in 0..1000000 {
+        if !answer_one(&rt, &mut input)? {
+            break;
+        }
+    }
+    Ok(())
 }

@@ -1,10 +1,13 @@
 // A quadratic with a box, solved by hand; tests/solve_by_hand.py made its stdout from what the Rust prints (`oracle expect`).
+#![tactic(auto)]
+
 use panoc::panoc_optimizer::answer;
 use panoc_core::panoc_cache::{
     AkktTolerance, Answered, Outcome, Question, Reply, Run, Settings, SolverStatus,
 };
 use panoc_points::points;
 use panoc_starts::start;
+use std::io;
 
 // ½ × q × (u - c)²
 fn term(q: f64, u: f64, c: f64) -> f64 {
@@ -66,79 +69,84 @@ fn plain(reply: Reply) -> Given {
     Given { reply, v: [0.0; 3] }
 }
 
-fn on_cost(u: [f64; 3]) -> Given {
-    shown::line(b"cost", &u);
+fn on_cost(rt: &impl Print, u: [f64; 3]) -> io::Result<Given> {
+    shown::line(rt, b"cost", &u)?;
     let x = cost(u);
-    plain(Reply::Number(x))
+    Ok(plain(Reply::Number(x)))
 }
 
-fn on_gradient(u: [f64; 3]) -> Given {
-    shown::line(b"gradient", &u);
+fn on_gradient(rt: &impl Print, u: [f64; 3]) -> io::Result<Given> {
+    shown::line(rt, b"gradient", &u)?;
     let v = gradient(u);
-    vector(v)
+    Ok(vector(v))
 }
 
-fn on_project(p: [f64; 3]) -> Given {
-    shown::line(b"project", &p);
+fn on_project(rt: &impl Print, p: [f64; 3]) -> io::Result<Given> {
+    shown::line(rt, b"project", &p)?;
     let v = project(p);
-    vector(v)
+    Ok(vector(v))
 }
 
 // The direction is the residual.
-fn on_direction(run: Run, forget: bool) -> Given {
+fn on_direction(rt: &impl Print, run: Run, forget: bool) -> io::Result<Given> {
     let mut residual = [0.0; 3];
     let mut u = [0.0; 3];
     points(run, &mut residual, &mut u);
-    shown::direction(forget, &residual, &u);
-    vector(residual)
+    shown::direction(rt, forget, &residual, &u)?;
+    Ok(vector(residual))
 }
 
-fn on_time() -> Given {
-    shown::word(b"time\n");
-    plain(Reply::Yes)
+fn on_time(rt: &impl Print) -> io::Result<Given> {
+    shown::word(rt, b"time\n")?;
+    Ok(plain(Reply::Yes))
 }
 
 // The answer to a question, which is printed with its points.
-fn given_to(run: Run, question: Question) -> Given {
+fn given_to(rt: &impl Print, run: Run, question: Question) -> io::Result<Given> {
     let at = point(run);
     match question {
-        Question::Cost => on_cost(at),
-        Question::Gradient => on_gradient(at),
-        Question::Project => on_project(at),
-        Question::Direction(forget) => on_direction(run, forget),
-        Question::Time => on_time(),
+        Question::Cost => on_cost(rt, at),
+        Question::Gradient => on_gradient(rt, at),
+        Question::Project => on_project(rt, at),
+        Question::Direction(forget) => on_direction(rt, run, forget),
+        Question::Time => on_time(rt),
     }
 }
 
 // A question, answered.
-fn turn(run: Run, question: Question, plan: &mut [f64; 3]) -> Answered {
-    let g = given_to(run, question);
+fn turn(
+    rt: &impl Print,
+    run: Run,
+    question: Question,
+    plan: &mut [f64; 3],
+) -> io::Result<Answered> {
+    let g = given_to(rt, run, question)?;
     let reply = g.reply;
     let v = g.v;
-    answer(run, reply, &v, plan)
+    Ok(answer(run, reply, &v, plan))
 }
 
-fn print_end(status: SolverStatus, plan: [f64; 3]) {
+fn print_end(rt: &impl Print, status: SolverStatus, plan: [f64; 3]) -> io::Result<()> {
     let exit = status.exit_status;
     let iterations = status.iterations;
-    shown::exit_status(exit);
-    shown::whole(iterations.0);
-    shown::float(status.norm_fpr);
-    shown::float(status.cost_value);
-    shown::line(b"\nplan", &plan);
+    shown::exit_status(rt, exit)?;
+    shown::whole(rt, iterations.0)?;
+    shown::float(rt, status.norm_fpr)?;
+    shown::float(rt, status.cost_value)?;
+    shown::line(rt, b"\nplan", &plan)
 }
 
-fn print_outcome(outcome: Outcome, plan: [f64; 3]) {
+fn print_outcome(rt: &impl Print, outcome: Outcome, plan: [f64; 3]) -> io::Result<()> {
     match outcome {
-        Outcome::Asked(_) => {}
-        Outcome::Ended(status) => print_end(status, plan),
-        Outcome::Refused(number) => shown::refused(number),
-        Outcome::Failed(_) => shown::refused(9),
+        Outcome::Asked(_) => Ok(()),
+        Outcome::Ended(status) => print_end(rt, status, plan),
+        Outcome::Refused(number) => shown::refused(rt, number),
+        Outcome::Failed(_) => shown::refused(rt, 9),
     }
 }
 
 // M is 5, so 30 + 56 × 5 turns are enough.
-fn main() {
+fn main(rt: HostRuntime) -> io::Result<()> {
     let set = Settings {
         n: 3,
         max_iter: 5,
@@ -148,15 +156,13 @@ fn main() {
     };
     let mut plan = [1.5, 0.0, 0.0];
     let mut last = start(set, &plan);
-    let mut turns = 310u64;
-    while turns > 0 {
+    for _ in 0..310 {
         let outcome = last.outcome;
         let Outcome::Asked(question) = outcome else {
-            print_outcome(outcome, plan);
-            return;
+            return print_outcome(&rt, outcome, plan);
         };
         let run = last.run;
-        last = turn(run, question, &mut plan);
-        turns -= 1;
+        last = turn(&rt, run, question, &mut plan)?;
     }
+    Ok(())
 }

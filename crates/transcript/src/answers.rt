@@ -12,8 +12,8 @@ fn answer_inner(p: Play, a: Reply, v: &[f64], plan: &mut [f64], out: &mut [u8]) 
 {
     let run = p.inner;
     let r = panoc::panoc_optimizer::answer(run, a, v, plan);
-    let at = transcript_inner::put_answered(r, out, p.session.at);
     let run = r.run;
+    let at = transcript_inner::put_answered(r, out, p.session.at);
     with_inner(p, run, at)
 }
 
@@ -31,8 +31,8 @@ fn answer_loop(
 {
     let run = p.outer;
     let r = alm::alm_optimizer::answer(run, a, v, plan, xi);
-    let at = transcript_loop::put_answered(r, out, p.session.at);
     let run = r.run;
+    let at = transcript_loop::put_answered(r, out, p.session.at);
     with_loop(p, run, at)
 }
 
@@ -43,8 +43,8 @@ fn answer_psi(p: Play, a: Reply, v: &[f64], out: &mut [u8]) -> Play
 {
     let run = p.psi;
     let r = psi::answer(run, a, v);
-    let at = transcript_psi::psi_printing::put_answered(r, out, p.session.at);
     let run = r.run;
+    let at = transcript_psi::psi_printing::put_answered(r, out, p.session.at);
     with_psi(p, run, at)
 }
 
@@ -55,8 +55,8 @@ fn answer_d_psi(p: Play, a: Reply, v: &[f64], res: &mut [f64], out: &mut [u8]) -
 {
     let run = p.d_psi;
     let r = d_psi::answer(run, a, v, res);
-    let at = transcript_psi::d_psi_printing::put_answered(r, out, p.session.at);
     let run = r.run;
+    let at = transcript_psi::d_psi_printing::put_answered(r, out, p.session.at);
     with_d_psi(p, run, at)
 }
 

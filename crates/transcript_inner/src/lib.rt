@@ -1,4 +1,6 @@
 // What the transcript program prints of a call of an inner solve.
+#![tactic(auto)]
+
 ghost use Rattle.std.specs.Prelude.{◌+◌, ◌*◌, ◌≤◌, length};
 
 use line_printing::put_floats;

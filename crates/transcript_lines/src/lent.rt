@@ -7,19 +7,15 @@ use line_printing::{put_counted, put_point};
 // A copy, as far as there is room.
 pub fn keep(from: &[f64], to: &mut [f64]) {
     let n = least(from.len(), to.len());
-    let mut i = 0usize;
-    while i < n {
+    for i in 0..n {
         to[i] = from[i];
-        i += 1;
     }
 }
 
 // From a place on the slice holds 0.
 pub fn clear(to: &mut [f64], from: usize) {
-    let mut i = from;
-    while i < to.len() {
+    for i in from..to.len() {
         to[i] = 0.0;
-        i += 1;
     }
 }
 

@@ -1,4 +1,6 @@
 // What all kinds of runs of the transcript program share: its lines, the places that it lends, and what it prints alike.
+#![tactic(auto)]
+
 pub mod lent;
 pub mod lines;
 pub mod names;

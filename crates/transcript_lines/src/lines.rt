@@ -1,23 +1,22 @@
 // The next line.
-ghost use Rattle.std.specs.Prelude.{◌≡◌, ◌+◌, ◌≤◌, ◌<◌, length};
+ghost use Rattle.std.specs.Prelude.{◌≡◌, ◌+◌, ◌≤◌, ◌<◌, length, IfOk};
 ghost use Rattle.transcript_lines.specs.Within.{Within};
 
 use crate::refill::refilled;
 use crate::session::Session;
+use std::io;
 
 // Where the line that begins at a place ends: at its newline, or where the bytes do.
 fn line_end(buf: &[u8], from: usize, have: usize) -> usize
     requires { (from ≤ have) × (have ≤ length buf.now) }
     ensures { (from ≤ result) × (result ≤ have) }
 {
-    let mut i = from;
-    while i < have {
+    for i in from..have {
         if buf[i] == b'\n' {
             return i;
         }
-        i += 1;
     }
-    i
+    have
 }
 
 // The line between two places is at hand.
@@ -46,19 +45,24 @@ fn found(s: Session, end: usize) -> Session
 }
 
 // The next line, or more bytes where none is whole; at the end of the input neither.
-pub fn next(s: Session, buf: &mut [u8], out: &[u8]) -> Session
+pub fn next(
+    rt: &(impl Input + Print),
+    s: Session,
+    buf: &mut [u8],
+    out: &[u8],
+) -> io::Result<Session>
     requires within { Within s (length buf.old) (length out.now) }
     requires in_bounds { (4608 ≤ length buf.old) × (length buf.old < 100000) }
-    ensures { Within result (length buf.old) (length out.now) }
+    ensures { IfOk result (λ r. Within r (length buf.old) (length out.now)) }
 {
     let from = s.next;
     let have = s.have;
     let end = line_end(buf, from, have);
     if end < have {
-        return found(s, end);
+        return Ok(found(s, end));
     }
     if s.more {
-        return refilled(s, buf, out);
+        return refilled(rt, s, buf, out);
     }
-    s
+    Ok(s)
 }

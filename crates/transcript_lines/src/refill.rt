@@ -1,38 +1,35 @@
 // Standard input and output in blocks.
-ghost use Rattle.std.specs.Prelude.{◌+◌, ◌≤◌, ◌<◌, length};
+ghost use Rattle.std.specs.Prelude.{◌+◌, ◌≤◌, ◌<◌, length, IfOk};
 ghost use Rattle.transcript_lines.specs.Within.{Within};
 
 use crate::session::Session;
-use libc::{STDIN_FILENO, STDOUT_FILENO};
+use std::io;
+use std::io::Read;
 
 // A line has no more bytes.
 const LONGEST: usize = 4096;
 
-// Writes what is printed, and says whether all was taken.
-pub fn flush(out: &[u8], at: usize) -> bool
+// Writes what is printed.
+pub fn flush(rt: &impl Print, out: &[u8], at: usize) -> io::Result<()>
     requires { at ≤ length out.now }
 {
-    io::write_all(STDOUT_FILENO, &out[..at])
+    rt.write_all(&out[..at])
 }
 
 // Reads behind the bytes that are there; gives how many came, 0 at the end.
-fn fill(buf: &mut [u8], have: usize) -> usize
+fn fill(rt: &impl Input, buf: &mut [u8], have: usize) -> io::Result<usize>
     requires { have ≤ length buf.old }
-    ensures { have + result ≤ length buf.new }
+    ensures { IfOk result (λ got. have + got ≤ length buf.new) }
 {
-    let part = &mut buf[have..];
-    let got = libc::read(STDIN_FILENO, part);
-    io::count(got, part)
+    rt.reader().read(&mut buf[have..])
 }
 
 // Moves bytes to the front.
 fn shift(buf: &mut [u8], from: usize, n: usize)
     requires { from + n ≤ length buf.old }
 {
-    let mut i = 0usize;
-    while i < n {
+    for i in 0..n {
         buf[i] = buf[from + i];
-        i += 1;
     }
 }
 
@@ -52,21 +49,21 @@ fn block(s: Session, have: usize, more: bool) -> Session
 }
 
 // More bytes behind those of an unfinished line. The end of the input ends the last line.
-fn filled(s: Session, left: usize, buf: &mut [u8]) -> Session
+fn filled(rt: &impl Input, s: Session, left: usize, buf: &mut [u8]) -> io::Result<Session>
     requires { (left ≤ 4096) × (4608 ≤ length buf.old) × (length buf.old < 100000) }
-    ensures { Within result (length buf.old) 4608 }
+    ensures { IfOk result (λ r. Within r (length buf.old) 4608) }
 {
-    let got = fill(buf, left);
+    let got = fill(rt, buf, left)?;
     if got > 0 {
-        return block(s, left + got, true);
+        return Ok(block(s, left + got, true));
     }
     if left == 0 {
         if !s.skip {
-            return block(s, 0, false);
+            return Ok(block(s, 0, false));
         }
     }
     buf[left] = b'\n';
-    block(s, left + 1, false)
+    Ok(block(s, left + 1, false))
 }
 
 // An unfinished line goes to the front; gives how many bytes it has, 0 where it is too long and passed over.
@@ -97,16 +94,19 @@ fn passes(s: Session) -> bool
 }
 
 // What is printed is written, and more bytes are read behind an unfinished line.
-pub fn refilled(s: Session, buf: &mut [u8], out: &[u8]) -> Session
+pub fn refilled(
+    rt: &(impl Input + Print),
+    s: Session,
+    buf: &mut [u8],
+    out: &[u8],
+) -> io::Result<Session>
     requires within { Within s (length buf.old) (length out.now) }
     requires in_bounds { (4608 ≤ length buf.old) × (length buf.old < 100000) }
-    ensures { Within result (length buf.old) (length out.now) }
+    ensures { IfOk result (λ r. Within r (length buf.old) (length out.now)) }
 {
     let left = kept(s, buf);
     let mut r = s;
     r.skip = passes(s);
-    if flush(out, s.at) {
-        return filled(r, left, buf);
-    }
-    block(r, 0, false)
+    flush(rt, out, s.at)?;
+    filled(rt, r, left, buf)
 }

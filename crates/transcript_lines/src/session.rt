@@ -1,12 +1,12 @@
 // What is kept from line to line of the buffers: the places in them.
-ghost use Rattle.std.specs.Prelude.{◌≡◌, ◌+◌, ◌≤◌, length};
+ghost use Rattle.std.specs.Prelude.{◌≡◌, ◌+◌, ◌≤◌, length, IfOk};
 ghost use Rattle.transcript_lines.specs.Within.{Within};
 
-use libc::STDOUT_FILENO;
+use std::io;
 
 // The line at hand stands from from to end where whole says that there is one, the next one begins at next, and have bytes were read; what is printed ends
 // at at. skip: a line that is too long is being passed over. more: the input goes on.
-#[derive(Drop)]
+#[derive(Clone, Copy)]
 pub struct Session {
     pub from: usize,
     pub end: usize,
@@ -35,15 +35,15 @@ pub fn opened() -> Session
 }
 
 // Writes what is printed once there is no room for another line; gives the place to print at.
-fn make_room(out: &[u8], at: usize) -> usize
+fn make_room(rt: &impl Print, out: &[u8], at: usize) -> io::Result<usize>
     requires { (at ≤ length out.now) × (4608 ≤ length out.now) }
-    ensures { result + 4608 ≤ length out.now }
+    ensures { IfOk result (λ free. free + 4608 ≤ length out.now) }
 {
     if out.len() - at < 4608 {
-        io::write_all(STDOUT_FILENO, &out[..at]);
-        return 0;
+        rt.write_all(&out[..at])?;
+        return Ok(0);
     }
-    at
+    Ok(at)
 }
 
 // The end of a line.
@@ -56,10 +56,10 @@ fn end_line(out: &mut [u8], at: usize) -> usize
 }
 
 // The line at hand is done: what it prints ends at a place, where its newline goes.
-pub fn told(s: Session, at: usize, out: &mut [u8]) -> Session
+pub fn told(rt: &impl Print, s: Session, at: usize, out: &mut [u8]) -> io::Result<Session>
     requires within { Within s s.have (length out.old) }
     requires at_bound { at ≤ s.at + 4500 }
-    ensures { Within result s.have (length out.old) }
+    ensures { IfOk result (λ r. Within r s.have (length out.old)) }
 {
     let ended = end_line(out, at);
     let mut r = s;
@@ -67,7 +67,7 @@ pub fn told(s: Session, at: usize, out: &mut [u8]) -> Session
     r.from = next;
     r.end = next;
     r.whole = false;
-    let free = make_room(out, ended);
+    let free = make_room(rt, out, ended)?;
     r.at = free;
-    r
+    Ok(r)
 }

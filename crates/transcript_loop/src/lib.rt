@@ -1,4 +1,6 @@
 // What the transcript program prints of a call of the loop.
+#![tactic(auto)]
+
 ghost use Rattle.std.specs.Prelude.{◌+◌, ◌*◌, ◌≤◌, length};
 
 use alm_core::alm_cache::{Alm, AlmAnswered, AlmOptimizerStatus, AlmOutcome, AlmQuestion, AlmRun};

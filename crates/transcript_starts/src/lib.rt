@@ -1,4 +1,6 @@
 // The calls of the transcript program that start a run.
+#![tactic(auto)]
+
 ghost use Rattle.std.specs.Prelude.{◌+◌, ◌≤◌, length};
 
 pub mod opened;
@@ -17,8 +19,8 @@ fn start_inner(p: Play, set: InnerStart, v: &[f64], out: &mut [u8]) -> Play
     ensures { result.at ≤ p.session.at + 4500 }
 {
     let r = panoc_starts::start(inner_settings(set), v);
-    let at = transcript_inner::put_answered(r, out, p.session.at);
     let run = r.run;
+    let at = transcript_inner::put_answered(r, out, p.session.at);
     let t = with_inner(p, run, at);
     opens(t, transcript_state::INNER, v.len(), 0)
 }
@@ -29,8 +31,8 @@ fn start_loop(p: Play, set: LoopStart, v: &[f64], w: &[f64], out: &mut [u8]) -> 
     ensures { result.at ≤ p.session.at + 4500 }
 {
     let r = alm_starts::start(loop_settings(set), v, w);
-    let at = transcript_loop::put_answered(r, out, p.session.at);
     let run = r.run;
+    let at = transcript_loop::put_answered(r, out, p.session.at);
     let t = with_loop(p, run, at);
     opens(t, transcript_state::LOOP, v.len(), w.len())
 }
@@ -41,8 +43,8 @@ fn start_psi(p: Play, set: PsiStart, v: &[f64], w: &[f64], out: &mut [u8]) -> Pl
     ensures { result.at ≤ p.session.at + 4500 }
 {
     let r = psi_starts::start(sizes(set), v, w);
-    let at = transcript_psi::psi_printing::put_answered(r, out, p.session.at);
     let run = r.run;
+    let at = transcript_psi::psi_printing::put_answered(r, out, p.session.at);
     let t = with_psi(p, run, at);
     opens(t, transcript_state::PSI, v.len(), w.len())
 }
@@ -54,8 +56,8 @@ fn start_d_psi(p: Play, set: PsiStart, v: &[f64], w: &[f64], out: &mut [u8]) -> 
 {
     let sizes = sizes(set);
     let r = d_psi_starts::start(sizes, v, w);
-    let at = transcript_psi::d_psi_printing::put_answered(r, out, p.session.at);
     let run = r.run;
+    let at = transcript_psi::d_psi_printing::put_answered(r, out, p.session.at);
     let t = with_d_psi(p, run, at);
     opens(t, transcript_state::D_PSI, least(sizes.n, 128), w.len())
 }
@@ -85,9 +87,9 @@ fn solves(p: Play, command: Command, v: &[f64], w: &[f64], out: &mut [u8]) -> Pl
 }
 
 // The lent places of u after a start: those of d_psi hold zeros.
-fn lent_first(p: Play, v: &[f64], u: &mut [f64]) {
+fn lent_first(kind: usize, v: &[f64], u: &mut [f64]) {
     keep(v, u);
-    if p.kind == transcript_state::D_PSI {
+    if kind == transcript_state::D_PSI {
         clear(u, 0);
     }
 }
@@ -106,7 +108,7 @@ pub fn starts(
     ensures { result.at ≤ p.session.at + 4500 }
 {
     let r = solves(p, command, v, w, out);
-    lent_first(r, v, u);
+    lent_first(r.kind, v, u);
     keep(w, xi);
     r
 }

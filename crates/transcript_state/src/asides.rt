@@ -8,15 +8,17 @@ use word_printing::put_word;
 
 // How many places are lent after lend: psi lends nothing, d_psi its result alone, the others u and xi. Places past the old ends hold 0.
 fn relent(p: Play, us: usize, xis: usize, u: &mut [f64], xi: &mut [f64]) -> Play {
-    if p.kind == crate::PSI {
+    let kind = p.kind;
+    let old_xis = p.xis;
+    if kind == crate::PSI {
         return p;
     }
     clear(u, p.us);
-    if p.kind == crate::D_PSI {
-        return opens(p, p.kind, us, p.xis);
+    if kind == crate::D_PSI {
+        return opens(p, kind, us, old_xis);
     }
-    clear(xi, p.xis);
-    opens(p, p.kind, us, xis)
+    clear(xi, old_xis);
+    opens(p, kind, us, xis)
 }
 
 // lend
@@ -26,8 +28,8 @@ fn lend(p: Play, a: u64, b: u64, u: &mut [f64], xi: &mut [f64], out: &mut [u8]) 
 {
     let us = a as usize;
     let xis = b as usize;
-    let mut r = relent(p, us, xis, u, xi);
     let at = put_lengths(us, xis, out, p.session.at);
+    let mut r = relent(p, us, xis, u, xi);
     r.at = at;
     r
 }
@@ -37,8 +39,8 @@ fn show(p: Play, u: &[f64], xi: &[f64], out: &mut [u8]) -> Play
     requires { (p.session.at + 4500 ≤ length out.old) × (length u.now ≤ 128) × (length xi.now ≤ 128) }
     ensures { result.at ≤ p.session.at + 4500 }
 {
-    let mut r = p;
     let at = put_lent(p.us, p.xis, u, xi, out, p.session.at);
+    let mut r = p;
     r.at = at;
     r
 }
@@ -48,8 +50,8 @@ pub fn bad(p: Play, out: &mut [u8]) -> Play
     requires { p.session.at + 4500 ≤ length out.old }
     ensures { result.at ≤ p.session.at + 4500 }
 {
-    let mut r = p;
     let at = put_word(b"bad", out, p.session.at);
+    let mut r = p;
     r.at = at;
     r
 }

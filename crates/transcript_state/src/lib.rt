@@ -1,4 +1,6 @@
 // What the transcript program keeps from line to line.
+#![tactic(auto)]
+
 ghost use Rattle.std.specs.Prelude.{◌≡◌};
 
 pub mod asides;
