@@ -1,9 +1,9 @@
 -- Where the first point of the loop's question lies. Assumes nothing.
 use Prim.Native.Nat.{ℕ}
-use mathlib.Core.Path.{◌≡◌, refl, sym, ap, ◌∙◌, subst}
+use mathlib.Core.Path.{◌≡◌, refl, sym, ap, ◌∙◌}
 use mathlib.Core.Bool.{Bool, true, false, cond}
 use mathlib.Core.List.{List, []}
-use mathlib.Core.Option.{Option, none, some}
+use mathlib.Core.Option.{some}
 use native.Mathlib.Omega.{arith}
 use lib.Ieee.{Float}
 use lib.ListN.{length, get_or}
@@ -25,7 +25,7 @@ use Rattle.alm_core.specs.Values.{first_point}
 use Rattle.alm_calls.specs.LoopCalls.{wanted_of, run_of, rest_of, asking}
 use Rattle.alm_calls.proofs.LoopLaws.{wanted_is, wanted_phase}
 use Rattle.alm_vectors.specs.LoopPoints.{first_places, first_at}
-use Rattle.alm_points.specs.LoopPointLaws.{LoopFacts, waits_facts}
+use Rattle.alm_points.specs.LoopPointLaws.{waits_facts}
 use Rattle.host_points.specs.Places as Inner
 use Rattle.host_loop_place.specs.Places.{holders, place_of, Lies}
 

@@ -1,4 +1,6 @@
 // Where the first point of a lent loop's question lies, for C.
+#![tactic(auto)]
+
 ghost use Rattle.std.specs.Prelude.{ℕ, ◌≡◌, List, Float};
 ghost use Rattle.alm_core.specs.Rest.{LoopBoard};
 ghost use Rattle.alm_core.specs.declared.alm_cache.AlmPhase.TheVariants as P;

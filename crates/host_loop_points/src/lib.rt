@@ -1,4 +1,6 @@
 // The points of a lent loop's question for C, copied.
+#![tactic(auto)]
+
 ghost use Rattle.alm_core.specs.Rest.{LoopBoard};
 ghost use Rattle.alm_calls.specs.LoopCalls.{Points, run_of};
 ghost use Rattle.alm_vectors.specs.LoopPoints.{asked};
