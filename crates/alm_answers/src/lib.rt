@@ -1,4 +1,6 @@
 // Which handler of the loop takes an answer: one of the inner solve, by its own dispatch, or one of the loop.
+#![tactic(auto)]
+
 ghost use Rattle.std.specs.Prelude.{◌≡◌, true, false, length};
 ghost use Rattle.model.specs.Refusals.{answer_refusal};
 ghost use Rattle.panoc_core.specs.Values.{reply_of};

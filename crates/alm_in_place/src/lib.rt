@@ -1,4 +1,6 @@
 // The answer to a run of the multiplier loop, in place.
+#![tactic(auto)]
+
 ghost use Rattle.alm_calls.specs.LoopCalls.{before, after, run_of, gave, Answers};
 
 use alm_answers::take;

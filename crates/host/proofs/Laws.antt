@@ -12,15 +12,13 @@ use Rattle.panoc_core.specs.declared.panoc_cache.Answered.{Answered}
 use Rattle.panoc_core.specs.declared.panoc_cache.Outcome.TheVariants.{Refused}
 use Rattle.panoc_core.specs.declared.panoc_cache.Reply.{Reply}
 use Rattle.panoc_core.specs.declared.panoc_cache.Run.{Run}
-use Rattle.panoc_core.specs.declared.panoc_cache.Settings.{Settings}
 use Rattle.panoc_core.specs.declared.panoc_cache.Solve.{Solve}
-use Rattle.panoc_core.specs.declared.panoc_cache.Stepped.{Stepped}
 use Rattle.panoc_core.specs.declared.refusals.Wanted.{Wanted}
 use Rattle.panoc_core.specs.Rest.{rest}
 use Rattle.panoc_core.specs.Values.{kind_of}
-use Rattle.panoc_core.specs.Board.{Board, Begins, run_of, gave, set_u, waiting, wanted_of}
+use Rattle.panoc_core.specs.Board.{Board, run_of, gave, waiting, wanted_of}
 use Rattle.panoc_core.specs.Wanted.{wanted_is}
-use Rattle.panoc_core.specs.Calls.{Answers, Points}
+use Rattle.panoc_core.specs.Calls.{Answers}
 use Rattle.image.specs.Image.{solve_of, reply_of, strange, noted, step_of}
 use Rattle.image.specs.Rounds.{strange_round}
 use Rattle.host.specs.Exports.{Exported}

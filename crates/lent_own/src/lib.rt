@@ -1,4 +1,6 @@
 // An answer to a question of the loop itself on lent numbers that nothing refuses.
+#![tactic(auto)]
+
 ghost use Rattle.std.specs.Prelude.{◌≡◌, [], get_or};
 ghost use Rattle.alm_core.specs.Rest.{LoopBoard};
 ghost use Rattle.alm_core.specs.Board.{set_u, set_y_plus, six};

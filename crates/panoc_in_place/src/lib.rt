@@ -1,4 +1,6 @@
 // The answer to a run of the inner solve, in place.
+#![tactic(auto)]
+
 ghost use Rattle.panoc_core.specs.Board.{run_of, gave, before, after};
 ghost use Rattle.panoc_core.specs.Calls.{Answers};
 

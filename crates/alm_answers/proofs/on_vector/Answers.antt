@@ -1,0 +1,41 @@
+use Rattle.alm_core.specs.declared.alm_cache.AlmPhase.TheVariants as P
+use Rattle.std.proofs.Common.{refl}
+use Rattle.alm_calls.proofs.LoopLaws.{vector_at, vector_not, vector_time, vector_number, vector_over}
+use Rattle.alm_core.specs.Board.{six}
+use Rattle.alm_answers.proofs.on_vector.Goals as goal
+
+pub on_project_y-requires : goal.on_project_y-requires
+on_project_y-requires c = let w = vector_at c.args.s _ _ P.ProjectY c.requires.0 c.in-ProjectY.is refl refl in (w.0, c.in-ProjectY.is, w.1)
+
+pub on_f1-requires : goal.on_f1-requires
+on_f1-requires c = let w = vector_at c.args.s _ _ P.F1 c.requires.0 c.in-F1.is refl refl in (w.0, c.in-F1.is, w.1)
+
+pub on_project_c-requires : goal.on_project_c-requires
+on_project_c-requires c = let w = vector_at c.args.s _ _ P.ProjectC c.requires.0 c.in-ProjectC.is refl refl in (w.0, c.in-ProjectC.is, w.1)
+
+pub on_f2-requires : goal.on_f2-requires
+on_f2-requires c = let w = vector_at c.args.s _ _ P.F2 c.requires.0 c.in-F2.is refl refl in (w.0, c.in-F2.is, w.1)
+
+pub returns-in-ProjectY : goal.returns-in-ProjectY
+returns-in-ProjectY c = λ b. c.on_project_y.ensures (six c.args.u.now c.args.scratch.now c.args.best.now c.args.y.now c.args.plus.now c.args.w.now b)
+
+pub returns-in-F1 : goal.returns-in-F1
+returns-in-F1 c = λ b. c.on_f1.ensures (six c.args.u.now c.args.scratch.now c.args.best.now c.args.y.now c.args.plus.now c.args.w.now b)
+
+pub returns-in-ProjectC : goal.returns-in-ProjectC
+returns-in-ProjectC c = λ b. c.on_project_c.ensures (six c.args.u.now c.args.scratch.now c.args.best.now c.args.y.now c.args.plus.now c.args.w.now b)
+
+pub returns-in-F2 : goal.returns-in-F2
+returns-in-F2 c = λ b. c.on_f2.ensures (six c.args.u.now c.args.scratch.now c.args.best.now c.args.y.now c.args.plus.now c.args.w.now b)
+
+pub returns-in-Time : goal.returns-in-Time
+returns-in-Time c = vector_not c.args.s _ P.Time c.requires.0 c.in-Time.is (vector_time _)
+
+pub returns-in-Inner : goal.returns-in-Inner
+returns-in-Inner c = absurd (c.requires.1 c.in-Inner.is)
+
+pub returns-in-LastCost : goal.returns-in-LastCost
+returns-in-LastCost c = vector_not c.args.s _ P.LastCost c.requires.0 c.in-LastCost.is (vector_number _)
+
+pub returns-in-Over : goal.returns-in-Over
+returns-in-Over c = vector_not c.args.s _ P.Over c.requires.0 c.in-Over.is (vector_over _)
