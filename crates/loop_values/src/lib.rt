@@ -1,5 +1,7 @@
 // Loops of by-value calls of the multiplier loop, to be timed by bench/values.sh; apart from those of the inner solve, since what both use would be compiled once for
 // both, as a call of its own. They are proved safe, and say nothing of what they give.
+#![tactic(auto)]
+
 use alm::alm_optimizer::answer;
 use alm_core::alm_cache::{AlmOutcome, AlmQuestion, AlmSettings};
 use alm_points::points;

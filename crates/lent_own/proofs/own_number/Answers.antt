@@ -1,3 +1,4 @@
+use Rattle.std.proofs.Common.{[]}
 use Rattle.lent_loop.specs.Laws.{own_may, own_takes, short, short_xi, settles, blank}
 use Rattle.alm_image.specs.AlmImage.{alm_of}
 use Rattle.alm_image.proofs.Phases.{not_inner}
