@@ -1,4 +1,6 @@
 // An answer of any kind to the multiplier loop for C, as the crate host has it for the inner solve; host_loop_number and host_loop_vector are the quick ways.
+#![tactic(auto)]
+
 ghost use Rattle.alm_calls.specs.LoopCalls.{before, after, run_of, gave};
 ghost use Rattle.alm_image.specs.AlmImage.{alm_of, step_of};
 ghost use Rattle.host_loop.specs.Exports.{Exported};

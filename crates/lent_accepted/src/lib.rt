@@ -1,4 +1,6 @@
 // An answer of any kind to a lent loop that nothing refuses.
+#![tactic(auto)]
+
 ghost use Rattle.alm_calls.specs.LoopCalls.{Answers, before, after, run_of, gave};
 ghost use Rattle.alm_image.specs.AlmImage.{alm_of, step_of};
 ghost use Rattle.lent_loop.specs.Lent.{Accepted};
