@@ -26,5 +26,8 @@ pub extern "C" fn pozkerrin_inner_answer(
 ) -> u32
     ensures { Exported kind x code v.now plan.old plan.new (run_of (solve_of w.old k.old f.old) (before u plus gradient previous step half fpr direction best)) (gave (step_of result w.new k.new f.new) (after u plus gradient previous step half fpr direction best)) }
 {
-    host::inner::pozkerrin_inner_answer(w, k, f, kind, x, code, v, plan, u, plus, gradient, previous, step, half, fpr, direction, best)
+    host::inner::pozkerrin_inner_answer(
+        w, k, f, kind, x, code, v, plan, u, plus, gradient, previous, step, half, fpr, direction,
+        best,
+    )
 }

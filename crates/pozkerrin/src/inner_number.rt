@@ -4,6 +4,8 @@ ghost use Rattle.panoc_core.specs.Board.{Board, run_of, gave, five, set_best};
 ghost use Rattle.panoc_core.specs.Calls.{Answers};
 ghost use Rattle.image.specs.Image.{solve_of, step_of};
 
+use panoc_core::panoc_cache::Reply;
+
 // The number x for the question of a run; a plan goes into the lent slice.
 #[unsafe(no_mangle)]
 pub extern "C" fn pozkerrin_inner_number(

@@ -19,5 +19,17 @@ pub extern "C" fn pozkerrin_inner_start(
 ) -> u32
     ensures { (b : Board) → Begins (settings_given n max_iter limited tolerance has_akkt akkt_tolerance) at.now (step_of result w.new k.new f.new) (set_u u.new b) }
 {
-    host_start::pozkerrin_inner_start(w, k, f, n, max_iter, limited, tolerance, has_akkt, akkt_tolerance, at, u)
+    host_start::pozkerrin_inner_start(
+        w,
+        k,
+        f,
+        n,
+        max_iter,
+        limited,
+        tolerance,
+        has_akkt,
+        akkt_tolerance,
+        at,
+        u,
+    )
 }

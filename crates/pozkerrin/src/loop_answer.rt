@@ -33,5 +33,8 @@ pub extern "C" fn pozkerrin_loop_answer(
 ) -> u32
     ensures { Exported kind x code v.now plan.old plan.new xi.old xi.new (run_of (alm_of w.old k.old f.old lw.old lk.old lf.old) (before u candidate gradient previous step half fpr direction best y plus f1)) (gave (step_of result w.new k.new f.new lw.new lk.new lf.new) (after u candidate gradient previous step half fpr direction best y plus f1)) }
 {
-    host_loop::pozkerrin_loop_answer(w, k, f, lw, lk, lf, kind, x, code, v, plan, xi, u, candidate, gradient, previous, step, half, fpr, direction, best, y, plus, f1)
+    host_loop::pozkerrin_loop_answer(
+        w, k, f, lw, lk, lf, kind, x, code, v, plan, xi, u, candidate, gradient, previous, step,
+        half, fpr, direction, best, y, plus, f1,
+    )
 }

@@ -5,6 +5,8 @@ ghost use Rattle.alm_calls.specs.LoopCalls.{Answers, run_of, gave};
 ghost use Rattle.alm_image.specs.AlmImage.{alm_of, step_of};
 ghost use Rattle.host_loop_number.specs.Eight.{eight};
 
+use panoc_core::panoc_cache::Reply;
+
 // The number x for the question of a run; a plan and the multipliers go into the lent slices.
 #[unsafe(no_mangle)]
 pub extern "C" fn pozkerrin_loop_number(
@@ -28,5 +30,7 @@ pub extern "C" fn pozkerrin_loop_number(
 ) -> u32
     ensures { (b : LoopBoard) → Answers (run_of (alm_of w.old k.old f.old lw.old lk.old lf.old) (eight u.old gradient.now step.old half.now fpr.old best.now y.old plus.now b)) (Reply.Number x) [] plan.old plan.new xi.old xi.new (gave (step_of result w.new k.new f.new lw.new lk.new lf.new) (eight u.new gradient.now step.new half.now fpr.new best.now y.new plus.now b)) }
 {
-    host_loop_number::pozkerrin_loop_number(w, k, f, lw, lk, lf, x, plan, xi, u, gradient, step, half, fpr, best, y, plus)
+    host_loop_number::pozkerrin_loop_number(
+        w, k, f, lw, lk, lf, x, plan, xi, u, gradient, step, half, fpr, best, y, plus,
+    )
 }

@@ -26,5 +26,7 @@ pub extern "C" fn pozkerrin_loop_points<'a>(
 ) -> u32
     ensures { (b : LoopBoard) → Points (run_of (alm_of w.now k.now f.now lw.now lk.now lf.now) (asked u.now candidate.now step.now half.now fpr.now best.now y.now plus.now b)) first.old first.new second.old second.new result }
 {
-    host_loop_points::pozkerrin_loop_points(w, k, f, lw, lk, lf, first, second, u, candidate, step, half, fpr, best, y, plus)
+    host_loop_points::pozkerrin_loop_points(
+        w, k, f, lw, lk, lf, first, second, u, candidate, step, half, fpr, best, y, plus,
+    )
 }

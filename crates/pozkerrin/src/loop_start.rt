@@ -35,5 +35,31 @@ pub extern "C" fn pozkerrin_loop_start(
 ) -> u32
     ensures { (b : LoopBoard) → Begins (settings_given n n1 n2 has_set_y max_inner max_outer limited tolerance epsilon delta initial penalty_factor epsilon_factor coefficient) at.now xi.now (step_of result w.new k.new f.new lw.new lk.new lf.new) (set_u u.new (set_y y.new (set_y_plus plus.new b))) }
 {
-    host_loop_start::pozkerrin_loop_start(w, k, f, lw, lk, lf, n, n1, n2, has_set_y, max_inner, max_outer, limited, tolerance, epsilon, delta, initial, penalty_factor, epsilon_factor, coefficient, at, xi, u, y, plus)
+    host_loop_start::pozkerrin_loop_start(
+        w,
+        k,
+        f,
+        lw,
+        lk,
+        lf,
+        n,
+        n1,
+        n2,
+        has_set_y,
+        max_inner,
+        max_outer,
+        limited,
+        tolerance,
+        epsilon,
+        delta,
+        initial,
+        penalty_factor,
+        epsilon_factor,
+        coefficient,
+        at,
+        xi,
+        u,
+        y,
+        plus,
+    )
 }
