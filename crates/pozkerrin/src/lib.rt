@@ -2,7 +2,6 @@
 #![tactic(auto)]
 
 mod d_psi_answer;
-mod d_psi_points;
 mod d_psi_start;
 mod inner_answer;
 mod inner_number;
@@ -16,6 +15,7 @@ mod loop_points;
 mod loop_second;
 mod loop_start;
 mod loop_vector;
+mod points_of_d_psi;
+mod points_of_psi;
 mod psi_answer;
-mod psi_points;
 mod psi_start;
