@@ -17,7 +17,6 @@ use Rattle.claims.specs.Claim.{Each, latest_run, Over, Follows}
 use Rattle.claims.specs.Lawful.{refused_by, Reaches, Gives, nothing, back, Lawful}
 use Rattle.claims.proofs.Lawful.{gives_kept, refused_hands}
 use Rattle.claims.proofs.Left.{left_accepted, left_refused, trace_accepted, trace_refused, weighed_passed, weighed_taken, asked_one, handed_left, within_left, awaits_accepted, awaits_left}
-
 use Rattle.claims.specs.Follow.{After, Back, One}
 
 -- ---- the table's numbers

@@ -4,7 +4,6 @@ use Rattle.std.proofs.Common.{sym, ◌∙◌, subst, arith}
 use Rattle.std.proofs.Math.Path.{ap}
 use Rattle.std.specs.Float.{binary64}
 use Rattle.model.specs.Process.{Handed, Solve, handed, refused, failed, ask, score, begin, stop}
-use Rattle.model.specs.Inner.{solve}
 use Rattle.model.specs.Refusals.{inner_refusal, start_inner, remains, lent_after, lent_at, plan_of}
 use Rattle.model.specs.Bounds.{AtMost, Weights, weigh, only_cost, only_gradient, only_project, only_direction, only_time}
 use Rattle.model.proofs.Bounds.{at_most_more, solve_questions_at_most, solve_cost_at_most, solve_gradient_at_most, solve_project_at_most, solve_direction_at_most, solve_time_at_most}
@@ -23,11 +22,10 @@ use Rattle.panoc_core.specs.declared.panoc_cache.Run.{Run}
 use Rattle.panoc_core.specs.declared.panoc_cache.Stepped.{Stepped}
 use Rattle.panoc_core.specs.declared.panoc_cache.Answered.{Answered}
 use Rattle.panoc_core.specs.Values.{settings_of, said, exit_status_of}
-use Rattle.panoc_core.specs.Rest.{rest}
 use Rattle.panoc_core.specs.Board.{Board, run_of, gave, Begins}
 use Rattle.panoc_core.specs.Calls.{Starts, asking}
 use Rattle.claims.specs.History.{Call, History}
-use Rattle.claims.specs.Trace.{refusal, leads_to, weighed, left, scored}
+use Rattle.claims.specs.Trace.{refusal, leads_to, weighed, left}
 use Rattle.claims.specs.Claim.{Over, scores}
 use Rattle.claims.specs.Lawful.{refused_by, Gives, nothing, back, Lawful}
 use Rattle.claims.proofs.Lawful.{gives_as, begins}

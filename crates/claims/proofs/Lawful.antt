@@ -3,11 +3,10 @@ use Prim.Native.Nat.{ℕ, zero, suc}
 use Rattle.std.proofs.Math.Path.{◌≡◌, refl, ap}
 use Rattle.std.proofs.Common.{sym, ◌∙◌, true≢false, arith}
 use Rattle.std.proofs.Math.Bool.{false}
-use Rattle.model.specs.Process.{Process, handed, refused, stop}
+use Rattle.model.specs.Process.{Process, refused, stop}
 use Rattle.model.specs.Refusals.{or_refused}
 use Rattle.model.specs.Carry.{end_of}
 use Rattle.claims.specs.History.{Runs}
-
 use Rattle.claims.specs.Lawful.{Gives, Lawful, back, nothing, refused_by}
 
 -- so does one that has come to the same past other marks

@@ -21,7 +21,6 @@ use Rattle.panoc_core.specs.Values.{reply_of}
 use Rattle.claims.specs.History.{Runs, Call}
 use Rattle.claims.specs.Trace.{refusal, leads_to, comes_to, renewed, left, Event, answered, scored, began, passed, taken, trace, watched, weighed}
 use Rattle.claims.specs.Claim.{latest, ScoresRight}
-
 use Rattle.claims.specs.Left.{AllRight}
 
 -- ---- one call more

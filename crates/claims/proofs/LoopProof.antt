@@ -37,7 +37,6 @@ use Rattle.claims.proofs.Left.{scores_right, right_left}
 use Rattle.claims.specs.Follow.{After, Back}
 use Rattle.claims.proofs.Follow.{no_run, follow, follows, each_both, each_back}
 use Rattle.claims.proofs.Chosen.{plan_is, is_converged}
-
 use Rattle.claims.specs.LoopProof.{status_of}
 
 -- ---- outcomes

@@ -2,11 +2,9 @@
 use Rattle.std.specs.Prelude.{◌≡◌, true, false, List, ◌∷◌}
 use Rattle.model.specs.Process.{Process, handed, stop}
 use Rattle.model.specs.Paths.{Watch}
-use Rattle.claims.specs.History.{Runs, Call, more}
+use Rattle.claims.specs.History.{Runs, Call}
 use Rattle.claims.specs.Trace.{comes_to, left, trace, watched, turned_down, accepted, weighed}
 use Rattle.claims.specs.Claim.{Unchanged}
-use Rattle.claims.specs.Lawful.{back}
-
 
 -- what a call has handed back
 pub record Back {Q H S : Type 0} (k : Runs Q H) (s : k.Settings) (p : Process Q H) (w : Watch Q S) (P : S → H → Type 0) (x : S) (c : Call k) (cs : List (Call k)) : Type 0 where

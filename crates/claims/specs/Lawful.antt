@@ -10,7 +10,6 @@ use Rattle.model.specs.Carry.{end_of}
 use Rattle.claims.specs.History.{Runs, Call, Meets}
 use Rattle.claims.specs.Trace.{refusal, leads_to}
 
-
 -- the number by which a process refuses where a call has come to it, 0 where it does not
 unfoldable pub refused_by : {Q H : Type 0} → Process Q H → ℕ
 refused_by (ask q k continue) = 0

@@ -1,9 +1,7 @@
 -- What holds of a process holds of what is left of it, and of what has happened, after any list of calls. Assumes nothing.
 use mathlib.Core.List.{List, [], ◌∷◌}
-use Rattle.model.specs.Process.{score}
 use Rattle.model.specs.Paths.{Watch}
 use Rattle.claims.specs.Trace.{Event, answered, scored, began, watched}
-
 
 -- each score among the events was right where it was made
 abbrev pub AllRight : {Q S : Type 0} → Watch Q S → S → List (Event Q) → Type 0

@@ -2,8 +2,6 @@
 use Rattle.model.specs.Process.{LoopHanded}
 use Rattle.panoc_core.specs.Values.{exit_status_of}
 use Rattle.alm_core.specs.declared.alm_cache.AlmOptimizerStatus.{AlmOptimizerStatus}
-use Rattle.claims.specs.Lawful.{back}
-
 
 -- what the code hands back of h
 abbrev pub status_of : LoopHanded → AlmOptimizerStatus
