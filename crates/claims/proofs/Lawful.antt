@@ -1,4 +1,4 @@
--- What a kind of run has to keep so that every list of its calls follows the process: its contract, in shared terms. Definitions, and small laws. Assumes nothing.
+-- Small laws of a kind of run that keeps its contract. Assumes nothing.
 use Prim.Native.Nat.{ℕ, zero, suc}
 use Rattle.std.proofs.Math.Path.{◌≡◌, refl, ap}
 use Rattle.std.proofs.Common.{sym, ◌∙◌, true≢false, arith}

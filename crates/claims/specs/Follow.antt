@@ -1,4 +1,4 @@
--- Every list of calls follows the process, for any kind of run that keeps its contract. Assumes nothing.
+-- What is left after a list of calls, and what one call more leaves: the records by which the lists are followed. Definitions only.
 use Rattle.std.specs.Prelude.{◌≡◌, true, false, List, ◌∷◌}
 use Rattle.model.specs.Process.{Process, handed, stop}
 use Rattle.model.specs.Paths.{Watch}

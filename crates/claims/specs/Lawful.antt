@@ -1,4 +1,4 @@
--- What a kind of run has to keep so that every list of its calls follows the process: its contract, in shared terms. Definitions, and small laws. Assumes nothing.
+-- What a kind of run has to keep so that every list of its calls follows the process: its contract, in shared terms. Definitions only.
 use Prim.Native.Nat.{ℕ, suc}
 use Rattle.std.proofs.Math.Path.{◌≡◌}
 use Rattle.std.specs.Prelude.{true}

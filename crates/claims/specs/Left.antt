@@ -1,4 +1,4 @@
--- What holds of a process holds of what is left of it, and of what has happened, after any list of calls. Assumes nothing.
+-- Each score among the events was right where it was made. Definitions only.
 use mathlib.Core.List.{List, [], ◌∷◌}
 use Rattle.model.specs.Paths.{Watch}
 use Rattle.claims.specs.Trace.{Event, answered, scored, began, watched}

@@ -1,4 +1,4 @@
--- Demand 3 holds for the multiplier loop. Assumes nothing.
+-- The status that a multiplier loop hands back. Definitions only.
 use Rattle.model.specs.Process.{LoopHanded}
 use Rattle.panoc_core.specs.Values.{exit_status_of}
 use Rattle.alm_core.specs.declared.alm_cache.AlmOptimizerStatus.{AlmOptimizerStatus}

@@ -1,3 +1,2 @@
+// Demand 3 for every list of calls: its statements are in specs/, its theorems in proofs/.
 #![tactic(auto)]
-
-// Demand 3 for every list of calls: see specs/.

@@ -1,4 +1,6 @@
 // A handler moves a run by these calls: on to another phase, with what is told.
+#![tactic(auto)]
+
 ghost use Rattle.std.specs.Prelude.{◌≡◌};
 ghost use Rattle.image.specs.Image.{moved};
 

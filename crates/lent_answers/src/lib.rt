@@ -1,1 +1,2 @@
 // Laws only: an answer to an inner solve on lent numbers.
+#![tactic(auto)]

@@ -1,4 +1,6 @@
 // The functions of `numeric` under names for C, for the comparison with the hardware's root.
+#![tactic(auto)]
+
 ghost use Rattle.std.specs.Prelude.{◌≡◌};
 ghost use Rattle.std.specs.Float.{binary64};
 ghost use Rattle.std.specs.Float.Ieee.Scale.{finite};
