@@ -1,4 +1,6 @@
 // A vector for the question of a loop, for C: the quick way for GRADIENT, PROJECT and DIRECTION, F1, F2 and the projections on C and Y.
+#![tactic(auto)]
+
 ghost use Rattle.alm_calls.specs.LoopCalls.{Answers, before, after, run_of, gave};
 ghost use Rattle.alm_image.specs.AlmImage.{alm_of, step_of};
 

@@ -1,4 +1,6 @@
 // A number for the question of a loop, for C: the quick way for COST, with the vectors that its answers need.
+#![tactic(auto)]
+
 ghost use Rattle.std.specs.Prelude.{[]};
 ghost use Rattle.alm_core.specs.Rest.{LoopBoard};
 ghost use Rattle.alm_calls.specs.LoopCalls.{Answers, run_of, gave};

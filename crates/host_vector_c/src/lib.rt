@@ -1,4 +1,6 @@
 // A vector for the question of an inner solve, for C: the quick way for GRADIENT, PROJECT and DIRECTION.
+#![tactic(auto)]
+
 ghost use Rattle.panoc_core.specs.Board.{before, after, run_of, gave};
 ghost use Rattle.panoc_core.specs.Calls.{Answers};
 ghost use Rattle.image.specs.Image.{solve_of, step_of};

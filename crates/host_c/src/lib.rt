@@ -1,20 +1,16 @@
-// The C library: every call that a host in C makes, with the contract of the crate that proves it.
+// The calls for C, under the names that the header has, each with the contract of the crate that proves it; the quick ways of a number and a vector are crates of their own, compiled apart.
 #![tactic(auto)]
 
 mod d_psi_answer;
 mod d_psi_start;
 mod inner_answer;
-mod inner_number;
 mod inner_points;
 mod inner_start;
-mod inner_vector;
 mod loop_answer;
-mod loop_number;
 mod loop_place;
 mod loop_points;
 mod loop_second;
 mod loop_start;
-mod loop_vector;
 mod points_of_d_psi;
 mod points_of_psi;
 mod psi_answer;

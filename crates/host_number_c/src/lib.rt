@@ -1,4 +1,6 @@
 // A number for the question of an inner solve, for C: the quick way for COST, with the vectors that its answers need.
+#![tactic(auto)]
+
 ghost use Rattle.std.specs.Prelude.{[]};
 ghost use Rattle.panoc_core.specs.Board.{Board, run_of, gave, five, set_best};
 ghost use Rattle.panoc_core.specs.Calls.{Answers};
