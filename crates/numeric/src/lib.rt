@@ -1,4 +1,4 @@
-// What Rattle lacks on `f64`: square root, absolute value, larger of two, and the test for a finite number.
+// Square root, absolute value, larger of two, and the test for a finite number, each as the engine's formulas ask.
 #![tactic(auto)]
 
 ghost use Rattle.std.specs.Prelude.{◌≡◌};
@@ -10,23 +10,21 @@ ghost use Rattle.ieee.specs.Root.{root};
 use square_root::root_bits;
 
 // The pattern of -0: the bit of the sign.
-const SIGN: u64 = 9223372036854775808;
+const SIGN: u64 = 1 << 63;
 
-const INFINITY: u64 = 9218868437227405312;
+const INFINITY: u64 = 0x7ff0_0000_0000_0000;
 
-// The square root of IEEE 754: the nearest float, of -0 -0, of what is negative or a NaN a NaN.
+// The square root of IEEE 754: the nearest float, of -0 -0, of what is negative or a NaN a NaN. It is worked out from the bits, by a rule of
+// the project; `f64::sqrt` is the processor's.
 pub fn sqrt(x: f64) -> f64
     ensures { result ≡ root binary64 x }
 {
-    if x != x {
-        return x;
+    if x.is_nan() || x == 0.0 {
+        return x; // a zero with its sign
     }
-    if x == 0.0 {
-        return x; // with its sign
-    }
-    let b = f64::to_bits(x);
+    let b = x.to_bits();
     if b >= SIGN {
-        return 0.0 / 0.0;
+        return f64::NAN;
     }
     if b >= INFINITY {
         return x;
@@ -35,32 +33,22 @@ pub fn sqrt(x: f64) -> f64
 }
 
 // The same number with the sign cleared, also of -0.
+#[tactic(auto, using(crate::proofs::Signs::sign_cleared))]
 pub fn abs(x: f64) -> f64
     ensures { result ≡ absolute x }
 {
-    if x < 0.0 {
-        return -x;
-    }
-    if x == 0.0 {
-        return 0.0;
-    }
-    x
+    x.abs()
 }
 
-// The larger of two; where one is a NaN the other; of two that are equal the first.
+// The larger of two; where one is a NaN the other; of two that are equal the first. Of 0 and -0 `f64::max` may answer either.
+#[tactic(auto, using(ieee::proofs::Larger::larger_nan, ieee::proofs::Larger::larger_above, ieee::proofs::Larger::larger_else))]
 pub fn max(a: f64, b: f64) -> f64
     ensures { result ≡ larger a b }
 {
-    if a != a {
-        return b; // a NaN is dropped
-    }
-    if a < b {
-        return b;
-    }
-    a
+    if a.is_nan() || a < b { b } else { a }
 }
 
-// Neither an infinity nor a NaN: either of them minus itself is a NaN.
+// Neither an infinity nor a NaN: either of them minus itself is a NaN. The test is written out, by a rule of the project.
 pub fn is_finite(x: f64) -> bool
     ensures { result ≡ finite x }
 {

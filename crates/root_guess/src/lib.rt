@@ -4,7 +4,7 @@
 ghost use Rattle.std.specs.Prelude.{◌*◌, ◌^◌, ◌≤◌, ◌<◌};
 
 // 2^52, the weight of the exponent's field
-const HID: u64 = 4503599627370496;
+const HID: u64 = 1 << 52;
 
 // This less half of a number's pattern is near the pattern of its inverse root.
 const INVERSE: u64 = 6910469410427058089;
@@ -42,8 +42,8 @@ pub fn guess(m: u64) -> u64
     let y = last_step(h, step(h, step(h, f64::from_bits(INVERSE - p / 2))));
     let g = s * y;
     let r = g + (s - g * g) * (0.5 * y);
-    if r != r {
+    if r.is_nan() {
         return HID;
     }
-    HID + f64::to_bits(r) % HID
+    HID + r.to_bits() % HID
 }

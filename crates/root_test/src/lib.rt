@@ -5,10 +5,10 @@ ghost use Rattle.std.specs.Prelude.{◌≡◌, true, false, ◌*◌, ◌^◌, �
 ghost use Rattle.ieee.specs.Squares.{IsNear};
 
 // 2^52, the weight of the exponent's field
-const HID: u64 = 4503599627370496;
+const HID: u64 = 1 << 52;
 
 // 2^26, which parts a number of 53 digits into halves
-const HALF: u64 = 67108864;
+const HALF: u64 = 1 << 26;
 
 // A product of two numbers of at most 2^27.
 fn product(a: u64, b: u64) -> u64

@@ -13,7 +13,7 @@ use root_guess::guess;
 use root_test::is_nearest;
 
 // 2^52, the weight of the exponent's field
-const HID: u64 = 4503599627370496;
+const HID: u64 = 1 << 52;
 
 #[derive(Drop)]
 struct Scaled {
@@ -66,12 +66,10 @@ pub fn root_bits(b: u64) -> u64
     requires { (0 < b) × (b < 9218868437227405312) }
     ensures { (T (not (nan_bits binary64 result))) × (of_bits binary64 result ≡ root binary64 (of_bits binary64 b)) }
 {
-    let p = parts(b);
-    let mut m = p.m;
-    let mut j = p.j;
+    let Scaled { mut m, mut j } = parts(b);
     while m < HID {
-        m = m * 4;
-        j = j - 1;
+        m *= 4;
+        j -= 1;
     }
     (j + 1) * HID + nearest(m)
 }

@@ -1,7 +1,6 @@
 -- `root_guess::guess` is safe and gives a number of 53 digits. Assumes nothing.
 use Rattle.std.proofs.Common.{arith}
 use Rattle.std.specs.Float.Ieee.{binary64}
-use Rattle.ieee.proofs.Special.{no_nan}
 use Rattle.ieee.proofs.Patterns.{no_nan_below}
 use Rattle.root_guess.proofs.guess.Goals as goal
 
@@ -10,6 +9,3 @@ float_from_bits-s c = no_nan_below binary64 c.pattern-p.result (omega arith)
 
 pub float_from_bits-p : goal.float_from_bits-p
 float_from_bits-p c = no_nan_below binary64 _ (omega arith)
-
-pub float_to_bits-result : goal.float_to_bits-result
-float_to_bits-result c = no_nan _ c.if-r.false

@@ -10,12 +10,6 @@ j-up c = j_pos binary64 c.args.b c.loop-m.m c.loop-m.j c.requires.0 c.loop-m.inv
 q-lt : (c : goal.After-nearest) → c.nearest.result < 2 ^ 53
 q-lt c = near_hi binary64 c.loop-m.m c.nearest.result c.loop-m-test.false c.loop-m.invariant.0 c.nearest.ensures
 
-pub parts-p-requires : goal.parts-p-requires
-parts-p-requires c = c.requires
-
-pub loop-m-init : goal.loop-m-init
-loop-m-init c = c.parts-p.ensures
-
 pub overflow_sub-j : goal.overflow_sub-j
 overflow_sub-j c = j-up c
 
