@@ -12,13 +12,8 @@ pub fn adopt_into(w: &[f64; 64], h: &[f64; 64], u: &mut [f64; 64], r: &mut [f64;
     ensures point { firsts n u.new ≡ firsts n w.now }
     ensures residual { firsts n r.new ≡ minus binary64 (firsts n w.now) (firsts n h.now) }
 {
-    let _ = matrix_operations::sized(u);
-    let _ = matrix_operations::sized(r);
-    let mut i = 0;
-    while i < n {
-        let x = w[i];
-        u[i] = x;
-        r[i] = x - h[i];
-        i += 1;
+    for i in 0..n {
+        u[i] = w[i];
+        r[i] = w[i] - h[i];
     }
 }

@@ -12,18 +12,11 @@ pub fn akkt_squared(gamma: f64, r: &[f64; 64], g: &[f64; 64], p: &[f64; 64], n: 
     requires { n ≤ 64 }
     ensures { result ≡ squares binary64 (plus_times binary64 gamma (firsts n r.now) (minus binary64 (firsts n g.now) (firsts n p.now))) }
 {
-    let mut s = 0.0;
-    let mut i = 0;
-    while i < n {
-        let t = g[i] - p[i];
-        let x = r[i] + gamma * t;
-        s = s + x * x;
-        i += 1;
-    }
-    s
+    matrix_operations::sum_of_squares(n, |i| r[i] + gamma * (g[i] - p[i]))
 }
 
 // The norm of r + γ × (g - p).
+#[tactic(auto, unfolding(ieee::specs::Sums::norm))]
 pub fn akkt_norm(gamma: f64, r: &[f64; 64], g: &[f64; 64], p: &[f64; 64], n: usize) -> f64
     requires { n ≤ 64 }
     ensures { result ≡ norm binary64 (plus_times binary64 gamma (firsts n r.now) (minus binary64 (firsts n g.now) (firsts n p.now))) }

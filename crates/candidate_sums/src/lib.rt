@@ -31,24 +31,19 @@ pub fn candidate_sums_into(
     ensures size { result.norm_squared ≡ squares binary64 (minus binary64 (firsts (length v.now) w.now) v.now) }
     ensures product { result.product ≡ dot binary64 (firsts (length v.now) g.now) (minus binary64 (firsts (length v.now) w.now) v.now) }
 {
-    let _ = matrix_operations::sized(h);
-    let n = v.len();
     let mut p = 0.0;
     let mut q = 0.0;
     let mut s = 0.0;
     let mut t = 0.0;
-    let mut i = 0;
-    while i < n {
-        let x = v[i];
+    for (i, x) in v.iter().enumerate() {
         let y = g[i];
-        let z = a[i] - x;
-        let e = w[i] - x;
+        let z = a[i] - *x;
+        let e = w[i] - *x;
         p = p + y * y;
         q = q + z * z;
         s = s + e * e;
         t = t + y * e;
-        h[i] = x;
-        i += 1;
+        h[i] = *x;
     }
     CandidateSums {
         gradient_squared: p,

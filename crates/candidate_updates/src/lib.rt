@@ -20,13 +20,6 @@ pub fn candidate_into(
     requires { n ≤ 64 }
     ensures { firsts n w.new ≡ less_times binary64 tau (less_times binary64 (sub binary64 (one binary64) tau) (firsts n u.now) (firsts n r.now)) (firsts n d.now) }
 {
-    let _ = matrix_operations::sized(w);
     let rest = 1.0 - tau;
-    let mut i = 0;
-    while i < n {
-        let s = rest * r[i];
-        let t = tau * d[i];
-        w[i] = u[i] - s - t;
-        i += 1;
-    }
+    matrix_operations::fill(w, n, |i| u[i] - rest * r[i] - tau * d[i]);
 }

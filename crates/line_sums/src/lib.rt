@@ -33,25 +33,17 @@ pub fn line_into(
     ensures gradient { result.gradient_squared ≡ squares binary64 (firsts (length v.now) g.now) }
     ensures distance { result.distance_squared ≡ squares binary64 (minus binary64 (firsts (length v.now) a.now) (firsts (length v.now) b.now)) }
 {
-    let _ = matrix_operations::sized(d);
-    let _ = matrix_operations::sized(w);
-    let n = v.len();
     let tau = 1.0;
     let other = 1.0 - tau;
     let mut s = 0.0;
     let mut t = 0.0;
-    let mut i = 0;
-    while i < n {
-        let x = v[i];
+    for (i, x) in v.iter().enumerate() {
         let y = g[i];
         let z = a[i] - b[i];
-        let k = other * r[i];
-        let m = tau * x;
         s = s + y * y;
         t = t + z * z;
-        d[i] = x;
-        w[i] = u[i] - k - m;
-        i += 1;
+        d[i] = *x;
+        w[i] = u[i] - other * r[i] - tau * *x;
     }
     EnvelopeSums {
         gradient_squared: s,

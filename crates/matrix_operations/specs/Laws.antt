@@ -1,8 +1,12 @@
 -- Laws for loops that go from place 0 up. What a loop has worked out of after i turns is a vector that grows by a place a turn (`Grows`); one law then closes a turn that stores, one a turn
 -- that sums squares, one a turn that sums products, one a turn that tests. Assumes nothing.
-use Rattle.std.specs.Prelude.{ℕ, zero, suc, ◌+◌, ◌<◌, ◌≤◌, ◌≡◌, refl, Bool, true, false, ◌&&◌, length, get_or, set, drop, replicate, Float}
+use Rattle.std.specs.Prelude.{ℕ, zero, suc, ◌+◌, ◌<◌, ◌≤◌, ◌≡◌, refl, Bool, true, false, ◌&&◌, length, get_or, set, take, drop, replicate, Float}
 use Rattle.std.proofs.Math.Path.{sym}
 use Rattle.std.proofs.Common.{ap, ◌∙◌, add-one, not-suc-le-zero, le_of_suc-le-suc, add-zero, arith, length-append, drop-set-lt, drop-drop, get_or-drop}
+use Rattle.std.proofs.Math.ListN.{get_or-append}
+use Rattle.std.proofs.Math.Seq.{get_or-append_seam}
+use Rattle.std.proofs.Math.Dec.{ltb}
+use borrow.Author.Tests.{ltb-true, ltb-false}
 use mathlib.Core.List.{List, [], ◌∷◌, ◌++◌, map, zip_with}
 use Rattle.std.specs.Float.{nan, Format}
 use Rattle.std.specs.Float.Ieee.{add, sub, mul, div, lt, of_bits}
@@ -13,7 +17,7 @@ use Rattle.ieee.specs.Root.{root}
 use Rattle.ieee.specs.Sums.{squares_from, squares, norm}
 use Rattle.model.specs.Constants.{epsilon_lipschitz, delta_lipschitz}
 use Rattle.model.specs.Vectors.{all_finite, minus, plus, less_times, plus_times, plus_over, products_from, dot, shift, shifts, shifted}
-use Rattle.matrix_operations.specs.Firsts.{firsts}
+use Rattle.matrix_operations.specs.Firsts.{firsts, Gives}
 
 -- ---- the first places of a list
 
@@ -23,6 +27,13 @@ unfolding firsts
 length_firsts zero l = refl
 length_firsts (suc n) [] = ap suc (length_firsts n [])
 length_firsts (suc n) (x ∷ l) = ap suc (length_firsts n l)
+
+-- where the list has so many, they are what a slice of it has
+pub firsts_take : (n : ℕ) (l : List Float) → n ≤ length l → firsts n l ≡ take n l
+unfolding firsts
+firsts_take zero l h = refl
+firsts_take (suc n) [] h = absurd (not-suc-le-zero h)
+firsts_take (suc n) (x ∷ l) h = ap (λ (t : List Float). x ∷ t) (firsts_take n l (le_of_suc-le-suc h))
 
 -- all places of a list are the list
 pub firsts_all : (l : List Float) (n : ℕ) → length l ≡ n → firsts n l ≡ l
@@ -65,6 +76,25 @@ pub record Grows (v : ℕ → List Float) (x : ℕ → Float) : Type 0 where
 grown : {v : ℕ → List Float} {x : ℕ → Float} → Grows v x → (i : ℕ) → length (v i) ≡ i
 grown g zero = ap length g.none
 grown {v} {x} g (suc i) = ap length (g.more i) ∙ length-append (v i) (x i ∷ []) ∙ ap (λ (k : ℕ). k + 1) (grown g i) ∙ add-one i
+
+-- and they are the x of the turns before
+place : {v : ℕ → List Float} {x : ℕ → Float} → Grows v x → (n i : ℕ) → i < n → get_or (v n) i nan ≡ x i
+place g zero i h = absurd (not-suc-le-zero h)
+place {v} {x} g (suc n) i h = by (λ (l : i < n). place g n i l) (ltb i n) refl
+  where
+    by : (i < n → get_or (v n) i nan ≡ x i) → (t : Bool) → ltb i n ≡ t → get_or (v (suc n)) i nan ≡ x i
+    by p true q =
+        let k : i < n = ltb-true i n q in
+        let l : i < length (v n) = omega (arith, grown g n) in
+        ap (λ (w : List Float). get_or w i nan) (g.more n) ∙ get_or-append (v n) (x n ∷ []) nan i l ∙ p k
+    by p false q =
+        let k : n ≡ i = omega (arith, ltb-false i n q) in
+        ap (λ (w : List Float). get_or w i nan) (g.more n) ∙ ap (λ (m : ℕ). get_or (v n ++ (x n ∷ [])) m nan) (sym k ∙ sym (grown g n)) ∙ get_or-append_seam (v n) (x n) [] nan ∙ ap x k
+
+-- so a fact of each list that a function gives is one of this list, where the function gives x i at i
+pub at_places : {v : ℕ → List Float} {x : ℕ → Float} {post : ℕ → Float → Type 0} {P : List Float → Type 0} → Grows v x → (n : ℕ)
+    → ((xs : List Float) → length xs ≡ n → Gives post xs → P xs) → ((i : ℕ) (y : Float) → i < n → post i y → y ≡ x i) → P (v n)
+at_places {v} g n law h = law (v n) (grown g n) (λ i y l p. let k : i < n = omega (arith, grown g n) in h i y k p ∙ sym (place g n i k))
 
 -- the first places of an array
 pub firsts_grows : (a : List Float) → Grows (λ i. firsts i a) (λ i. get_or a i nan)
@@ -168,13 +198,22 @@ kept_at r₀ r i e =
 pub kept_turn : (r₀ r : List Float) (i : ℕ) (x : Float) → drop i r ≡ drop i r₀ → drop (i + 1) (set r i x) ≡ drop (i + 1) r₀
 kept_turn r₀ r i x e = drop-set-lt (i + 1) r i x (omega arith) ∙ sym (drop-drop 1 i r) ∙ ap (drop 1) e ∙ drop-drop 1 i r₀
 
--- what a whole copy gives, into an array
-pub copied_in : (v r : List Float) (i : ℕ) → i ≡ length v → firsts i r ≡ firsts i v → firsts (length v) r ≡ v
-copied_in v r i p e = ap (λ (k : ℕ). firsts k r) (sym p) ∙ e ∙ firsts_all v i (sym p)
+-- ---- copies: what stands before the rest of an array is its first places
 
--- out of one
-pub copied_out : (a u : List Float) (i n : ℕ) → i ≡ n → length u ≡ n → firsts i u ≡ firsts i a → u ≡ firsts n a
-copied_out a u i n p q e = sym (firsts_all u i (q ∙ sym p)) ∙ e ∙ ap (λ (k : ℕ). firsts k a) p
+firsts_front : (l rest : List Float) (n : ℕ) → length l ≡ n → firsts n (l ++ rest) ≡ l
+unfolding firsts
+firsts_front [] rest zero e = refl
+firsts_front [] rest (suc n) e = absurd (omega arith)
+firsts_front (x ∷ l) rest zero e = absurd (omega arith)
+firsts_front (x ∷ l) rest (suc n) e = ap (λ (t : List Float). x ∷ t) (firsts_front l rest n (omega arith))
+
+-- a whole slice
+pub copied_in : (l rest v : List Float) → l ≡ v → firsts (length v) (l ++ rest) ≡ v
+copied_in l rest v e = firsts_front l rest (length v) (ap length e) ∙ e
+
+-- the first places of another array
+pub copied : (l rest a : List Float) (n : ℕ) → n ≤ length a → l ≡ take n a → firsts n (l ++ rest) ≡ firsts n a
+copied l rest a n h e = let k = e ∙ sym (firsts_take n a h) in firsts_front l rest n (ap length k ∙ length_firsts n a) ∙ k
 
 -- ---- a turn that sums squares
 

@@ -1,18 +1,34 @@
-// Norms and tests of vectors of floats: the first n places of an array of 64, or a whole slice. Sums run from place 0.
+// Vectors of floats, the first n places of an array of 64 or a whole slice: filled place by place, their norms and tests. Sums run from place 0.
 #![tactic(auto)]
 
-ghost use Rattle.std.specs.Prelude.{◌≡◌, ◌≤◌, length};
+ghost use Rattle.std.specs.Prelude.{◌≡◌, ◌≤◌, ◌<◌, ℕ, List, Float, length};
 ghost use Rattle.std.specs.Float.{binary64};
 ghost use Rattle.ieee.specs.Sums.{squares, norm};
 ghost use Rattle.model.specs.Vectors.{all_finite, minus};
-ghost use Rattle.matrix_operations.specs.Firsts.{firsts};
+ghost use Rattle.matrix_operations.specs.Firsts.{firsts, Gives};
 
-// An array of 64 has 64 places. A leaf that writes calls this once: the checker gives no length for a lent array.
-pub fn sized(a: &[f64; 64]) -> usize
-    ensures { length a.now ≡ 64 }
+// r = f(0), f(1), .., at the first n places.
+pub fn fill<F: Fn(usize) -> f64>(r: &mut [f64; 64], n: usize, f: F)
+    requires count { n ≤ 64 }
+    requires callable { (i : ℕ) → i < n → F.pre f i }
+    ensures { (xs : List Float) → length xs ≡ n → Gives (λ i y. F.post f i y) xs → firsts n r.new ≡ xs }
 {
-    let s = &a[..];
-    s.len()
+    for i in 0..n {
+        r[i] = f(i);
+    }
+}
+
+// The sum of the squares of f(0), f(1), .., of the first n.
+pub fn sum_of_squares<F: Fn(usize) -> f64>(n: usize, f: F) -> f64
+    requires { (i : ℕ) → i < n → F.pre f i }
+    ensures { (xs : List Float) → length xs ≡ n → Gives (λ i y. F.post f i y) xs → result ≡ squares binary64 xs }
+{
+    let mut s = 0.0;
+    for i in 0..n {
+        let x = f(i);
+        s = s + x * x;
+    }
+    s
 }
 
 // The sum of the squares.
@@ -20,17 +36,11 @@ pub fn norm2_squared(a: &[f64; 64], n: usize) -> f64
     requires { n ≤ 64 }
     ensures { result ≡ squares binary64 (firsts n a.now) }
 {
-    let mut s = 0.0;
-    let mut i = 0;
-    while i < n {
-        let x = a[i];
-        s = s + x * x;
-        i += 1;
-    }
-    s
+    sum_of_squares(n, |i| a[i])
 }
 
 // The norm.
+#[tactic(auto, unfolding(ieee::specs::Sums::norm))]
 pub fn norm2(a: &[f64; 64], n: usize) -> f64
     requires { n ≤ 64 }
     ensures { result ≡ norm binary64 (firsts n a.now) }
@@ -43,17 +53,11 @@ pub fn norm2_squared_diff(a: &[f64; 64], b: &[f64; 64], n: usize) -> f64
     requires { n ≤ 64 }
     ensures { result ≡ squares binary64 (minus binary64 (firsts n a.now) (firsts n b.now)) }
 {
-    let mut s = 0.0;
-    let mut i = 0;
-    while i < n {
-        let x = a[i] - b[i];
-        s = s + x * x;
-        i += 1;
-    }
-    s
+    sum_of_squares(n, |i| a[i] - b[i])
 }
 
 // The norm of a - b.
+#[tactic(auto, unfolding(ieee::specs::Sums::norm))]
 pub fn norm2_diff(a: &[f64; 64], b: &[f64; 64], n: usize) -> f64
     requires { n ≤ 64 }
     ensures { result ≡ norm binary64 (minus binary64 (firsts n a.now) (firsts n b.now)) }
@@ -66,25 +70,16 @@ pub fn is_finite(a: &[f64; 64], n: usize) -> bool
     requires { n ≤ 64 }
     ensures { result ≡ all_finite (firsts n a.now) }
 {
-    let mut ok = true;
-    let mut i = 0;
-    while i < n {
-        ok = ok & numeric::is_finite(a[i]);
-        i += 1;
-    }
-    ok
+    is_finite_in(&a[..n])
 }
 
 // Whether every entry of a slice is finite.
 pub fn is_finite_in(v: &[f64]) -> bool
     ensures { result ≡ all_finite v.now }
 {
-    let n = v.len();
     let mut ok = true;
-    let mut i = 0;
-    while i < n {
-        ok = ok & numeric::is_finite(v[i]);
-        i += 1;
+    for x in v {
+        ok = ok & numeric::is_finite(*x);
     }
     ok
 }

@@ -18,12 +18,5 @@ pub fn multipliers_into(
     requires { n ≤ 64 }
     ensures { firsts n r.new ≡ plus_times binary64 c (firsts n y.now) (minus binary64 (firsts n v.now) (firsts n p.now)) }
 {
-    let _ = matrix_operations::sized(r);
-    let mut i = 0;
-    while i < n {
-        let t = v[i] - p[i];
-        let s = c * t;
-        r[i] = y[i] + s;
-        i += 1;
-    }
+    matrix_operations::fill(r, n, |i| y[i] + c * (v[i] - p[i]));
 }

@@ -19,18 +19,11 @@ pub fn gradient_into(
     ensures step { firsts (length v.now) r.new ≡ less_times binary64 gamma (firsts (length v.now) x.now) v.now }
     ensures finite { result ≡ all_finite v.now }
 {
-    let _ = matrix_operations::sized(g);
-    let _ = matrix_operations::sized(r);
-    let n = v.len();
     let mut ok = true;
-    let mut i = 0;
-    while i < n {
-        let y = v[i];
-        let t = gamma * y;
-        ok = ok & numeric::is_finite(y);
-        g[i] = y;
-        r[i] = x[i] - t;
-        i += 1;
+    for (i, y) in v.iter().enumerate() {
+        ok = ok & numeric::is_finite(*y);
+        g[i] = *y;
+        r[i] = x[i] - gamma * *y;
     }
     ok
 }

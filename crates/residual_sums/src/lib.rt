@@ -27,17 +27,16 @@ pub fn residual_into(
     ensures size { result.norm ≡ norm binary64 (minus binary64 (firsts n u.now) (firsts n h.now)) }
     ensures product { result.product ≡ dot binary64 (firsts n g.now) (minus binary64 (firsts n u.now) (firsts n h.now)) }
 {
-    let _ = matrix_operations::sized(r);
     let mut s = 0.0;
     let mut t = 0.0;
-    let mut i = 0;
-    while i < n {
+    for i in 0..n {
         let x = u[i] - h[i];
         s = s + x * x;
         t = t + g[i] * x;
         r[i] = x;
-        i += 1;
     }
-    let norm = numeric::sqrt(s);
-    ResidualSums { norm, product: t }
+    ResidualSums {
+        norm: numeric::sqrt(s),
+        product: t,
+    }
 }

@@ -17,9 +17,10 @@ fn shift_at(s: f64) -> f64
 {
     let t = EPSILON_LIPSCHITZ * s;
     if DELTA_LIPSCHITZ < t {
-        return t;
+        t
+    } else {
+        DELTA_LIPSCHITZ
     }
-    DELTA_LIPSCHITZ
 }
 
 // u is left shifted; the norm of the shift is returned.
@@ -28,15 +29,11 @@ pub fn shift_into(u: &mut [f64; 64], n: usize) -> f64
     ensures left { firsts n u.new ≡ shifted binary64 (firsts n u.old) }
     ensures size { result ≡ norm binary64 (shifts binary64 (firsts n u.old)) }
 {
-    let _ = matrix_operations::sized(u);
     let mut s = 0.0;
-    let mut i = 0;
-    while i < n {
-        let x = u[i];
-        let t = shift_at(x);
+    for i in 0..n {
+        let t = shift_at(u[i]);
         s = s + t * t;
-        u[i] = x + t;
-        i += 1;
+        u[i] += t;
     }
     numeric::sqrt(s)
 }

@@ -11,11 +11,8 @@ pub fn add_times(gamma: f64, b: &[f64; 64], r: &mut [f64; 64], n: usize)
     requires { n ≤ 64 }
     ensures { firsts n r.new ≡ plus_times binary64 gamma (firsts n r.old) (firsts n b.now) }
 {
-    let _ = matrix_operations::sized(r);
-    let mut i = 0;
-    while i < n {
-        let t = gamma * b[i];
-        r[i] = r[i] + t;
-        i += 1;
+    // r is read too, which `matrix_operations::fill` cannot lend to its closure
+    for i in 0..n {
+        r[i] += gamma * b[i];
     }
 }

@@ -7,43 +7,30 @@ ghost use Rattle.ieee.specs.Numbers.{null};
 ghost use Rattle.matrix_operations.specs.Firsts.{firsts};
 
 // r = a
+#[tactic(auto, using(matrix_operations::specs::Laws::copied))]
 pub fn copy_into(a: &[f64; 64], r: &mut [f64; 64], n: usize)
     requires { n ≤ 64 }
     ensures { firsts n r.new ≡ firsts n a.now }
 {
-    let _ = matrix_operations::sized(r);
-    let mut i = 0;
-    while i < n {
-        r[i] = a[i];
-        i += 1;
-    }
+    r[..n].copy_from_slice(&a[..n]);
 }
 
 // The numbers of a slice of at most 64, into the first places of an array.
+#[tactic(auto, using(matrix_operations::specs::Laws::copied_in))]
 pub fn take_into(v: &[f64], r: &mut [f64; 64])
     requires { length v.now ≤ 64 }
     ensures { firsts (length v.now) r.new ≡ v.now }
 {
-    let _ = matrix_operations::sized(r);
-    let n = v.len();
-    let mut i = 0;
-    while i < n {
-        r[i] = v[i];
-        i += 1;
-    }
+    r[..v.len()].copy_from_slice(v);
 }
 
 // The first places of an array, into a slice of at most 64.
+#[tactic(auto, using(matrix_operations::specs::Laws::firsts_take))]
 pub fn give(a: &[f64; 64], u: &mut [f64])
     requires { length u.old ≤ 64 }
     ensures { u.new ≡ firsts (length u.old) a.now }
 {
-    let n = u.len();
-    let mut i = 0;
-    while i < n {
-        u[i] = a[i];
-        i += 1;
-    }
+    u.copy_from_slice(&a[..u.len()]);
 }
 
 // Sixty-four zeros.
@@ -64,5 +51,5 @@ pub fn zero_into(r: &mut [f64; 64])
 pub fn infinity() -> f64
     ensures { result ≡ inf false }
 {
-    f64::from_bits(0x7ff0_0000_0000_0000)
+    f64::INFINITY
 }

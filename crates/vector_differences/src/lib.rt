@@ -11,10 +11,5 @@ pub fn minus_into(a: &[f64; 64], b: &[f64; 64], r: &mut [f64; 64], n: usize)
     requires { n ≤ 64 }
     ensures { firsts n r.new ≡ minus binary64 (firsts n a.now) (firsts n b.now) }
 {
-    let _ = matrix_operations::sized(r);
-    let mut i = 0;
-    while i < n {
-        r[i] = a[i] - b[i];
-        i += 1;
-    }
+    matrix_operations::fill(r, n, |i| a[i] - b[i]);
 }

@@ -11,13 +11,7 @@ pub fn less_times_into(a: &[f64; 64], gamma: f64, b: &[f64; 64], r: &mut [f64; 6
     requires { n ≤ 64 }
     ensures { firsts n r.new ≡ less_times binary64 gamma (firsts n a.now) (firsts n b.now) }
 {
-    let _ = matrix_operations::sized(r);
-    let mut i = 0;
-    while i < n {
-        let t = gamma * b[i];
-        r[i] = a[i] - t;
-        i += 1;
-    }
+    matrix_operations::fill(r, n, |i| a[i] - gamma * b[i]);
 }
 
 // r = a + b / c
@@ -25,11 +19,5 @@ pub fn plus_over_into(c: f64, a: &[f64; 64], b: &[f64; 64], r: &mut [f64; 64], n
     requires { n ≤ 64 }
     ensures { firsts n r.new ≡ plus_over binary64 c (firsts n a.now) (firsts n b.now) }
 {
-    let _ = matrix_operations::sized(r);
-    let mut i = 0;
-    while i < n {
-        let t = b[i] / c;
-        r[i] = a[i] + t;
-        i += 1;
-    }
+    matrix_operations::fill(r, n, |i| a[i] + b[i] / c);
 }

@@ -6,10 +6,10 @@ use Rattle.matrix_operations.specs.Laws.{firsts_grows, minus_grows, store_none, 
 use Rattle.adopted_sums.proofs.adopt_into.Goals as goal
 
 pub loop-i-init : goal.loop-i-init
-loop-i-init c = (omega arith, c.sized.ensures, c.sized-2.ensures, store_none (firsts_grows _) _, store_none (minus_grows binary64 (firsts_grows _) (firsts_grows _)) _)
+loop-i-init c = (omega arith, omega arith, store_none (firsts_grows _) _, store_none (minus_grows binary64 (firsts_grows _) (firsts_grows _)) _)
 
 pub loop-i-preserved : goal.loop-i-preserved
-loop-i-preserved c = (omega arith, simp length-set (omega arith), simp length-set (omega arith), store_turn (firsts_grows _) _ _ _ (omega arith) refl c.loop-i.invariant.3, store_turn (minus_grows binary64 (firsts_grows _) (firsts_grows _)) _ _ _ (omega arith) refl c.loop-i.invariant.4)
+loop-i-preserved c = (simp length-set (omega arith), simp length-set (omega arith), store_turn (firsts_grows _) _ _ _ (omega arith) refl c.loop-i.invariant.2, store_turn (minus_grows binary64 (firsts_grows _) (firsts_grows _)) _ _ _ (omega arith) refl c.loop-i.invariant.3)
 
 pub returns : goal.returns
-returns c = let e : c.loop-i.i ≡ c.args.n = omega arith in rw (← e) (record { point = c.loop-i.invariant.3; residual = c.loop-i.invariant.4 })
+returns c = let e : c.loop-i.i ≡ c.args.n = omega arith in rw (← e) (record { point = c.loop-i.invariant.2; residual = c.loop-i.invariant.3 })

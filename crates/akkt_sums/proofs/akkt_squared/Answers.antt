@@ -1,14 +1,8 @@
 -- `akkt_sums::akkt_squared` meets its contract: each turn adds the square of a place of r + γ × (g - p). Assumes nothing.
-use Rattle.std.proofs.Common.{◌≡◌, refl, arith}
+use Rattle.std.proofs.Common.{rules}
 use Rattle.std.specs.Float.Ieee.{binary64}
-use Rattle.matrix_operations.specs.Laws.{firsts_grows, minus_grows, plus_times_grows, squares_none, squares_turn}
+use Rattle.matrix_operations.specs.Laws.{firsts_grows, minus_grows, plus_times_grows, at_places}
 use Rattle.akkt_sums.proofs.akkt_squared.Goals as goal
 
-pub loop-i-init : goal.loop-i-init
-loop-i-init c = (omega arith, squares_none binary64 (plus_times_grows binary64 (firsts_grows _) (minus_grows binary64 (firsts_grows _) (firsts_grows _)) _))
-
-pub loop-i-preserved : goal.loop-i-preserved
-loop-i-preserved c = (omega arith, squares_turn binary64 (plus_times_grows binary64 (firsts_grows _) (minus_grows binary64 (firsts_grows _) (firsts_grows _)) _) _ _ _ refl c.loop-i.invariant.1)
-
 pub returns : goal.returns
-returns c = let e : c.loop-i.i ≡ c.args.n = omega arith in rw (← e) c.loop-i.invariant.1
+returns c = at_places (plus_times_grows binary64 (firsts_grows _) (minus_grows binary64 (firsts_grows _) (firsts_grows _)) _) c.args.n c.sum_of_squares.ensures (λ i y h p. search rules)

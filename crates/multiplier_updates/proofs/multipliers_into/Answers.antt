@@ -1,15 +1,8 @@
 -- `multiplier_updates::multipliers_into` meets its contract: each turn stores a place of y + c × (v - p). Assumes nothing.
-use Rattle.std.proofs.Common.{◌≡◌, refl, arith}
-use Rattle.std.proofs.Math.ListN.{length-set}
+use Rattle.std.proofs.Common.{rules}
 use Rattle.std.specs.Float.Ieee.{binary64}
-use Rattle.matrix_operations.specs.Laws.{firsts_grows, minus_grows, plus_times_grows, store_none, store_turn}
+use Rattle.matrix_operations.specs.Laws.{firsts_grows, minus_grows, plus_times_grows, at_places}
 use Rattle.multiplier_updates.proofs.multipliers_into.Goals as goal
 
-pub loop-i-init : goal.loop-i-init
-loop-i-init c = (omega arith, c.sized.ensures, store_none (plus_times_grows binary64 (firsts_grows _) (minus_grows binary64 (firsts_grows _) (firsts_grows _)) _) _)
-
-pub loop-i-preserved : goal.loop-i-preserved
-loop-i-preserved c = (omega arith, simp length-set (omega arith), store_turn (plus_times_grows binary64 (firsts_grows _) (minus_grows binary64 (firsts_grows _) (firsts_grows _)) _) _ _ _ (omega arith) refl c.loop-i.invariant.2)
-
 pub returns : goal.returns
-returns c = let e : c.loop-i.i ≡ c.args.n = omega arith in rw (← e) c.loop-i.invariant.2
+returns c = at_places (plus_times_grows binary64 (firsts_grows _) (minus_grows binary64 (firsts_grows _) (firsts_grows _)) _) c.args.n c.fill.ensures (λ i y h p. search rules)

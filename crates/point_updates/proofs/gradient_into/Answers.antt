@@ -6,12 +6,12 @@ use Rattle.matrix_operations.specs.Laws.{firsts_all, firsts_grows, less_times_gr
 use Rattle.point_updates.proofs.gradient_into.Goals as goal
 
 pub loop-i-init : goal.loop-i-init
-loop-i-init c = (omega arith, refl, c.sized.ensures, c.sized-2.ensures, store_none (firsts_grows _) _, store_none (less_times_grows binary64 (firsts_grows _) (firsts_grows _) _) _, finite_none (firsts_grows _))
+loop-i-init c = (omega arith, omega arith, store_none (firsts_grows _) _, store_none (less_times_grows binary64 (firsts_grows _) (firsts_grows _) _) _, finite_none (firsts_grows _))
 
 pub loop-i-preserved : goal.loop-i-preserved
-loop-i-preserved c = (omega arith, omega arith, simp length-set (omega arith), simp length-set (omega arith), store_turn (firsts_grows _) _ _ _ (omega arith) refl c.loop-i.invariant.4, store_turn (less_times_grows binary64 (firsts_grows _) (firsts_grows _) _) _ _ _ (omega arith) refl c.loop-i.invariant.5, finite_turn (firsts_grows _) _ _ _ c.is_finite-ok.ensures c.loop-i.invariant.6)
+loop-i-preserved c = (simp length-set (omega arith), simp length-set (omega arith), store_turn (firsts_grows _) _ _ _ (omega arith) refl c.loop-i.invariant.2, store_turn (less_times_grows binary64 (firsts_grows _) (firsts_grows _) _) _ _ _ (omega arith) refl c.loop-i.invariant.3, finite_turn (firsts_grows _) _ _ _ c.is_finite-ok.ensures c.loop-i.invariant.4)
 
 pub returns : goal.returns
 returns c = let e : c.loop-i.i ≡ length c.args.v.now = omega arith in
     let f = firsts_all c.args.v.now c.loop-i.i (sym e) in
-    rw (← e) (record { gradient = c.loop-i.invariant.4 ∙ f; step = rw f at c.loop-i.invariant.5; finite = rw f at c.loop-i.invariant.6 })
+    rw (← e) (record { gradient = c.loop-i.invariant.2 ∙ f; step = rw f at c.loop-i.invariant.3; finite = rw f at c.loop-i.invariant.4 })

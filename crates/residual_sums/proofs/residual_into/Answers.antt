@@ -6,10 +6,10 @@ use Rattle.matrix_operations.specs.Laws.{firsts_grows, minus_grows, store_none, 
 use Rattle.residual_sums.proofs.residual_into.Goals as goal
 
 pub loop-i-init : goal.loop-i-init
-loop-i-init c = (omega arith, c.sized.ensures, store_none (minus_grows binary64 (firsts_grows _) (firsts_grows _)) _, squares_none binary64 (minus_grows binary64 (firsts_grows _) (firsts_grows _)), dot_none binary64 (firsts_grows _) (minus_grows binary64 (firsts_grows _) (firsts_grows _)))
+loop-i-init c = (omega arith, store_none (minus_grows binary64 (firsts_grows _) (firsts_grows _)) _, squares_none binary64 (minus_grows binary64 (firsts_grows _) (firsts_grows _)), dot_none binary64 (firsts_grows _) (minus_grows binary64 (firsts_grows _) (firsts_grows _)))
 
 pub loop-i-preserved : goal.loop-i-preserved
-loop-i-preserved c = (omega arith, simp length-set (omega arith), store_turn (minus_grows binary64 (firsts_grows _) (firsts_grows _)) _ _ _ (omega arith) refl c.loop-i.invariant.2, squares_turn binary64 (minus_grows binary64 (firsts_grows _) (firsts_grows _)) _ _ _ refl c.loop-i.invariant.3, dot_turn binary64 (firsts_grows _) (minus_grows binary64 (firsts_grows _) (firsts_grows _)) _ _ c.loop-i.invariant.4)
+loop-i-preserved c = (simp length-set (omega arith), store_turn (minus_grows binary64 (firsts_grows _) (firsts_grows _)) _ _ _ (omega arith) refl c.loop-i.invariant.1, squares_turn binary64 (minus_grows binary64 (firsts_grows _) (firsts_grows _)) _ _ _ refl c.loop-i.invariant.2, dot_turn binary64 (firsts_grows _) (minus_grows binary64 (firsts_grows _) (firsts_grows _)) _ _ c.loop-i.invariant.3)
 
 pub returns : goal.returns
-returns c = let e : c.loop-i.i ≡ c.args.n = omega arith in rw (← e) (record { left = c.loop-i.invariant.2; size = norm_root binary64 _ _ _ c.loop-i.invariant.3 c.sqrt-norm.ensures; product = c.loop-i.invariant.4 })
+returns c = let e : c.loop-i.i ≡ c.args.n = omega arith in rw (← e) (record { left = c.loop-i.invariant.1; size = norm_root binary64 _ _ _ c.loop-i.invariant.2 c.sqrt.ensures; product = c.loop-i.invariant.3 })

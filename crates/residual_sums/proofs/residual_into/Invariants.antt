@@ -1,5 +1,5 @@
 -- `residual_sums::residual_into` meets its contract: each turn stores a place of u - h, adds its square, and adds its product with a place of g. Assumes nothing.
-use Rattle.std.proofs.Common.{◌≤◌, ◌-◌, ◌≡◌}
+use Rattle.std.proofs.Common.{◌≡◌}
 use Rattle.std.proofs.Math.ListN.{length}
 use Rattle.std.specs.Float.Ieee.{binary64}
 use Rattle.ieee.specs.Sums.{squares}
@@ -8,7 +8,4 @@ use Rattle.matrix_operations.specs.Firsts.{firsts}
 use Rattle.residual_sums.proofs.residual_into.Given as goal
 
 abbrev pub invariant-loop-i : goal.invariant-loop-i
-invariant-loop-i l = (l.i ≤ l.n) × (length l.r ≡ 64) × (firsts l.i l.r ≡ minus binary64 (firsts l.i l.u) (firsts l.i l.h)) × (l.s ≡ squares binary64 (minus binary64 (firsts l.i l.u) (firsts l.i l.h))) × (l.t ≡ dot binary64 (firsts l.i l.g) (minus binary64 (firsts l.i l.u) (firsts l.i l.h)))
-
-abbrev pub decreases-loop-i : goal.decreases-loop-i
-decreases-loop-i l = l.n - l.i
+invariant-loop-i l = (length l.r ≡ 64) × (firsts l.i l.r ≡ minus binary64 (firsts l.i l.u) (firsts l.i l.h)) × (l.s ≡ squares binary64 (minus binary64 (firsts l.i l.u) (firsts l.i l.h))) × (l.t ≡ dot binary64 (firsts l.i l.g) (minus binary64 (firsts l.i l.u) (firsts l.i l.h)))

@@ -7,5 +7,5 @@ use Rattle.shift_updates.proofs.shift_at.Goals as goal
 pub returns-then-t : goal.returns-then-t
 returns-then-t c = shift_above binary64 _ _ c.args.s epsilon_lipschitz_bits delta_lipschitz_bits c.if-t.true
 
-pub returns : goal.returns
-returns c = shift_else binary64 _ _ c.args.s epsilon_lipschitz_bits delta_lipschitz_bits c.if-t.false
+pub returns-else-t : goal.returns-else-t
+returns-else-t c = shift_else binary64 _ _ c.args.s epsilon_lipschitz_bits delta_lipschitz_bits c.if-t.false

@@ -1,5 +1,5 @@
 -- `vector_additions::add_times` meets its contract: each turn stores a place of r + γ × b, and the places from i on are as they were. Assumes nothing.
-use Rattle.std.proofs.Common.{◌≤◌, ◌-◌, ◌≡◌}
+use Rattle.std.proofs.Common.{◌≡◌}
 use Rattle.std.proofs.Math.ListN.{length, drop}
 use Rattle.std.specs.Float.Ieee.{binary64}
 use Rattle.model.specs.Vectors.{plus_times}
@@ -7,7 +7,4 @@ use Rattle.matrix_operations.specs.Firsts.{firsts}
 use Rattle.vector_additions.proofs.add_times.Given as goal
 
 abbrev pub invariant-loop-i : goal.invariant-loop-i
-invariant-loop-i l = (l.i ≤ l.n) × (length l.r ≡ 64) × (drop l.i l.r ≡ drop l.i l.initial.r) × (firsts l.i l.r ≡ plus_times binary64 l.gamma (firsts l.i l.initial.r) (firsts l.i l.b))
-
-abbrev pub decreases-loop-i : goal.decreases-loop-i
-decreases-loop-i l = l.n - l.i
+invariant-loop-i l = (length l.r ≡ 64) × (drop l.i l.r ≡ drop l.i l.initial.r) × (firsts l.i l.r ≡ plus_times binary64 l.gamma (firsts l.i l.initial.r) (firsts l.i l.b))
