@@ -8,6 +8,7 @@ ghost use Rattle.ieee.specs.Numbers.{larger};
 ghost use Rattle.model.specs.Constants.{one, two};
 
 // What y is divided by: the larger of the penalty and 1.
+#[tactic(auto, using(model::proofs::Literals::one_bits))]
 pub fn divisor(penalty: f64) -> f64
     ensures { result ≡ larger penalty (one binary64) }
 {
@@ -15,6 +16,7 @@ pub fn divisor(penalty: f64) -> f64
 }
 
 // The value with (c/2) × x added.
+#[tactic(auto, using(model::proofs::Literals::two_bits))]
 pub fn penalized(value: f64, c: f64, x: f64) -> f64
     ensures { result ≡ add binary64 value (mul binary64 (div binary64 c (two binary64)) x) }
 {
