@@ -39,10 +39,10 @@ pub fn candidate_sums_into(
         let y = g[i];
         let z = a[i] - *x;
         let e = w[i] - *x;
-        p = p + y * y;
-        q = q + z * z;
-        s = s + e * e;
-        t = t + y * e;
+        p += y * y;
+        q += z * z;
+        s += e * e;
+        t += y * e;
         h[i] = *x;
     }
     CandidateSums {

@@ -40,8 +40,8 @@ pub fn line_into(
     for (i, x) in v.iter().enumerate() {
         let y = g[i];
         let z = a[i] - b[i];
-        s = s + y * y;
-        t = t + z * z;
+        s += y * y;
+        t += z * z;
         d[i] = *x;
         w[i] = u[i] - other * r[i] - tau * *x;
     }

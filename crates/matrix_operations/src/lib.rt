@@ -26,7 +26,7 @@ pub fn sum_of_squares<F: Fn(usize) -> f64>(n: usize, f: F) -> f64
     let mut s = 0.0;
     for i in 0..n {
         let x = f(i);
-        s = s + x * x;
+        s += x * x;
     }
     s
 }
@@ -77,9 +77,10 @@ pub fn is_finite(a: &[f64; 64], n: usize) -> bool
 pub fn is_finite_in(v: &[f64]) -> bool
     ensures { result ≡ all_finite v.now }
 {
+    // tried: `all`, which takes longer for 4 places
     let mut ok = true;
     for x in v {
-        ok = ok & numeric::is_finite(*x);
+        ok &= numeric::is_finite(*x);
     }
     ok
 }

@@ -21,7 +21,7 @@ pub fn gradient_into(
 {
     let mut ok = true;
     for (i, y) in v.iter().enumerate() {
-        ok = ok & numeric::is_finite(*y);
+        ok &= numeric::is_finite(*y);
         g[i] = *y;
         r[i] = x[i] - gamma * *y;
     }

@@ -31,8 +31,8 @@ pub fn residual_into(
     let mut t = 0.0;
     for i in 0..n {
         let x = u[i] - h[i];
-        s = s + x * x;
-        t = t + g[i] * x;
+        s += x * x;
+        t += g[i] * x;
         r[i] = x;
     }
     ResidualSums {

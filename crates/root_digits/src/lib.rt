@@ -4,7 +4,7 @@
 ghost use Rattle.std.specs.Prelude.{◌*◌, ◌/◌, ◌^◌, ◌≤◌, ◌<◌};
 ghost use Rattle.ieee.specs.Squares.{IsRoot};
 
-// 2^52, the weight of the exponent's field
+// 2^52, the weight of the exponent's field. It stands in each crate of the root: shared, the one would be built on another for this line.
 const HID: u64 = 1 << 52;
 
 // The whole part of the root of m * 4^turns / 2^54, a digit a turn. q * q + rem is what has been taken of it.

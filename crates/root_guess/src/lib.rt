@@ -3,7 +3,7 @@
 
 ghost use Rattle.std.specs.Prelude.{◌*◌, ◌^◌, ◌≤◌, ◌<◌};
 
-// 2^52, the weight of the exponent's field
+// 2^52, the weight of the exponent's field. It stands in each crate of the root: shared, the one would be built on another for this line.
 const HID: u64 = 1 << 52;
 
 // This less half of a number's pattern is near the pattern of its inverse root.

@@ -4,7 +4,7 @@
 ghost use Rattle.std.specs.Prelude.{◌≡◌, true, false, ◌*◌, ◌^◌, ◌≤◌, ◌<◌};
 ghost use Rattle.ieee.specs.Squares.{IsNear};
 
-// 2^52, the weight of the exponent's field
+// 2^52, the weight of the exponent's field. It stands in each crate of the root: shared, the one would be built on another for this line.
 const HID: u64 = 1 << 52;
 
 // 2^26, which parts a number of 53 digits into halves

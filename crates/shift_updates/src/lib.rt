@@ -32,7 +32,7 @@ pub fn shift_into(u: &mut [f64; 64], n: usize) -> f64
     let mut s = 0.0;
     for i in 0..n {
         let t = shift_at(u[i]);
-        s = s + t * t;
+        s += t * t;
         u[i] += t;
     }
     numeric::sqrt(s)

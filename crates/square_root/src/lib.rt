@@ -12,7 +12,7 @@ use root_digits::digits;
 use root_guess::guess;
 use root_test::is_nearest;
 
-// 2^52, the weight of the exponent's field
+// 2^52, the weight of the exponent's field. It stands in each crate of the root: shared, the one would be built on another for this line.
 const HID: u64 = 1 << 52;
 
 #[derive(Drop)]
@@ -67,6 +67,7 @@ pub fn root_bits(b: u64) -> u64
     ensures { (T (not (nan_bits binary64 result))) × (of_bits binary64 result ≡ root binary64 (of_bits binary64 b)) }
 {
     let Scaled { mut m, mut j } = parts(b);
+    // by leading_zeros it would be no plainer: m grows by two digits a step, and j falls by one
     while m < HID {
         m *= 4;
         j -= 1;
