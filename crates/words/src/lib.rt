@@ -1,48 +1,54 @@
 // The words of a line, one space apart.
 #![tactic(auto)]
 
-ghost use Rattle.std.specs.Prelude.{◌≡◌, ◌+◌, length, drop};
-ghost use Rattle.words.specs.Splitting.{first_word, is_word};
+ghost use Rattle.std.specs.Prelude.{◌≡◌, ◌==◌, ◌∷◌, position};
+ghost use Rattle.words.specs.Splitting.{words_of};
+ghost use Rattle.words.specs.Left.{words_in, words_left};
 
-// Where the word that begins at a place ends: at the next space, or where the line ends.
-pub fn ending(line: &[u8], from: usize) -> usize
-    ensures { result ≡ from + length (first_word (drop from line.now)) }
-{
-    let mut i = from;
-    while i < line.len() {
-        if line[i] == b' ' {
-            return i;
-        }
-        i += 1;
-    }
-    i
+// The words of a line that are still to come: those of what is left of it, none behind the last.
+#[derive(Drop)]
+pub struct Words<'a> {
+    left: Option<&'a [u8]>,
 }
 
-// The word that begins at a place; past the line's end an empty one.
-pub fn word(line: &[u8], from: usize) -> &[u8]
-    ensures { result.now ≡ first_word (drop from line.now) }
-{
-    if from < line.len() {
-        let end = ending(line, from);
-        &line[from..end]
-    } else {
-        &line[..0]
+impl<'a> Words<'a> {
+    // Those of a whole line: at least one; a word may be empty.
+    pub fn of(line: &'a [u8]) -> Self
+        ensures { words_left result ≡ words_of line.now }
+    {
+        Words { left: Some(line) }
     }
 }
 
-// Whether two words are one.
-pub fn same(a: &[u8], b: &[u8]) -> bool
-    ensures { result ≡ is_word a.now b.now }
+// Where the first space is.
+fn space(line: &[u8]) -> Option<usize>
+    ensures { result ≡ position (λ c. c == 32) line.now }
 {
-    if a.len() != b.len() {
-        return false;
+    line.iter().position(|c| *c == b' ')
+}
+
+// The first word, and the line behind the space that ends it.
+fn cut(line: &[u8]) -> (&[u8], Option<&[u8]>)
+    ensures { words_of line.now ≡ result.0.now ∷ words_in result.1 }
+{
+    match space(line) {
+        Some(end) => (&line[..end], Some(&line[end + 1..])),
+        None => (line, None),
     }
-    let mut i = 0usize;
-    while i < a.len() {
-        if a[i] != b[i] {
-            return false;
-        }
-        i += 1;
+}
+
+impl<'a> Iterator for Words<'a> {
+    ghost use Rattle.std.specs.Iterator.{YieldsFirstRef, item_count};
+
+    type Item = &'a [u8];
+
+    ghost next_gives = { YieldsFirstRef words_left };
+
+    ghost remaining = { item_count words_left };
+
+    fn next(&mut self) -> Option<&'a [u8]> {
+        let (word, left) = cut(self.left?);
+        self.left = left;
+        Some(word)
     }
-    true
 }
