@@ -1,85 +1,52 @@
 // Whole numbers of words: what a byte counts as a digit, and what a word of decimal digits reads as.
 #![tactic(auto)]
 
-ghost use Rattle.std.specs.Prelude.{◌≡◌, ◌^◌};
-ghost use Rattle.word_numbers.specs.Digits.{digit as Digits·digit};
-ghost use Rattle.word_numbers.specs.Reading.{whole_of};
-ghost use Rattle.word_numbers.specs.Values.{whole_is};
+ghost use Rattle.std.specs.Prelude.{◌≡◌, ◌≤◌, ◌^◌};
+ghost use Rattle.word_numbers.specs.Digits.{digit_of, numeral as Digits·numeral};
+ghost use Rattle.word_numbers.specs.Reading.{under, whole_of};
 
-// The largest number that ten times still fits.
-const TENTH: u64 = 1844674407370955161;
-
-// A whole number, or a word of another form.
-#[derive(Drop)]
-pub enum Whole {
-    Value(u64),
-    Other,
+// What a byte counts as a digit.
+#[tactic(auto, using(std::proofs::lemmas::Bool::Decides::nat_tests), unfolding(crate::specs::Digits::digit))]
+pub fn digit(c: u8) -> Option<u64>
+    ensures { result ≡ digit_of c }
+{
+    match c {
+        b'0'..=b'9' => Some(u64::from(c - b'0')),
+        b'a'..=b'f' => Some(u64::from(c - b'a' + 10)),
+        _ => None,
+    }
 }
 
-// What a byte counts as a digit, 16 for none.
-pub fn digit(c: u8) -> u64
-    ensures { result ≡ Digits·digit c }
+// A numeral in a base, below 2^64. A word of no digits is 0.
+pub fn numeral(base: u64, word: &[u8]) -> Option<u64>
+    requires { (1 ≤ base) × (base ≤ 16) }
+    ensures { result ≡ under (2 ^ 64) (Digits·numeral base 0 word.now) }
 {
-    if c < 48 {
-        return 16;
-    }
-    if c < 58 {
-        return c as u64 - 48;
-    }
-    if c < 97 {
-        return 16;
-    }
-    if c < 103 {
-        return c as u64 - 87;
-    }
-    16
-}
-
-// A whole number below 2^64.
-pub fn read_whole(word: &[u8]) -> Whole
-    ensures { result ≡ whole_is (whole_of (2 ^ 64) word.now) }
-{
-    if word.len() == 0 {
-        return Whole::Other;
-    }
-    if word[0] == b'0' {
-        if word.len() == 1 {
-            return Whole::Value(0);
-        }
-        return Whole::Other;
-    }
     let mut n = 0u64;
-    let mut i = 0usize;
-    while i < word.len() {
-        let d = digit(word[i]);
-        if d >= 10 {
-            return Whole::Other;
+    for &c in word {
+        let d = digit(c)?;
+        if d >= base {
+            return None;
         }
-        if n > TENTH {
-            return Whole::Other;
-        }
-        let t = n * 10;
-        if t > u64::MAX - d {
-            return Whole::Other;
-        }
-        n = t + d;
-        i += 1;
+        n = n.checked_mul(base)?.checked_add(d)?;
     }
-    Whole::Value(n)
+    Some(n)
+}
+
+// A whole number below 2^64: nothing follows a zero in front.
+pub fn read_whole(word: &[u8]) -> Option<u64>
+    ensures { result ≡ whole_of (2 ^ 64) word.now }
+{
+    let (first, rest) = word.split_first()?;
+    if *first == b'0' {
+        return rest.is_empty().then_some(0);
+    }
+    numeral(10, word)
 }
 
 // A whole number below 2^32.
-pub fn read_whole32(word: &[u8]) -> Whole
-    ensures { result ≡ whole_is (whole_of (2 ^ 32) word.now) }
+pub fn read_whole32(word: &[u8]) -> Option<u32>
+    ensures { result ≡ whole_of (2 ^ 32) word.now }
 {
-    match read_whole(word) {
-        Whole::Value(n) => {
-            if n < 4294967296 {
-                Whole::Value(n)
-            } else {
-                Whole::Other
-            }
-        }
-        Whole::Other => Whole::Other,
-    }
+    u32::try_from(read_whole(word)?).ok()
 }

@@ -1,7 +1,7 @@
 -- Reading what was printed gives the number back. Assumes nothing.
 use Rattle.std.specs.Prelude.{◌≡◌, refl, Bool, true, false, cond, List, [], ◌∷◌, ◌++◌, ℕ, zero, suc, ◌+◌, ◌-◌, ◌*◌, ◌/◌, ◌%◌, ◌^◌, ◌≤◌, ◌<◌, T, ltb, length, get_or, Float}
 use Rattle.std.proofs.Common.{sym, ap, ◌∙◌, subst, lt_of_lt_of_le, div-lt_iff_lt-mul, le-div_iff_mul-le, pow-suc, mod-lt, div-add-mod', arith, lit<, lit≤, ltb-true, ltb-false, lt-ltb, le-ltb, eq-eqb}
-use Rattle.std.proofs.Math.Option.{Option, none, some}
+use Rattle.std.specs.Prelude.{Option, None, Some}
 use Rattle.std.proofs.Math.Nat.{pow-zero}
 use Rattle.std.proofs.Math.ListN.{get_or-append}
 use Rattle.std.specs.Float.{nan, binary64}
@@ -28,8 +28,8 @@ digit_glyph d h = go (ltb d 10) refl
 
 -- a numeral with one more digit
 more : ℕ → ℕ → Option ℕ → Option ℕ
-more b c none = none
-more b c (some n) = cond (ltb (digit c) b) (some (n * b + digit c)) none
+more b c None = None
+more b c (Some n) = cond (ltb (digit c) b) (Some (n * b + digit c)) None
 
 numeral_snoc : (b a : ℕ) (w : List ℕ) (c : ℕ) → numeral b a (w ++ (c ∷ [])) ≡ more b c (numeral b a w)
 unfolding numeral more
@@ -37,26 +37,26 @@ numeral_snoc b a [] c = refl
 numeral_snoc b a (x ∷ w) c = go (ltb (digit x) b) (numeral_snoc b (a * b + digit x) w c)
   where
     go : (t : Bool) → numeral b (a * b + digit x) (w ++ (c ∷ [])) ≡ more b c (numeral b (a * b + digit x) w)
-        → cond t (numeral b (a * b + digit x) (w ++ (c ∷ []))) none ≡ more b c (cond t (numeral b (a * b + digit x) w) none)
+        → cond t (numeral b (a * b + digit x) (w ++ (c ∷ []))) None ≡ more b c (cond t (numeral b (a * b + digit x) w) None)
     go true e = e
     go false e = refl
 
 -- the digits of a number read as the number
-pub numeral_digits : (b k n : ℕ) → 0 < b → b ≤ 16 → n < b ^ k → numeral b 0 (digits b k n) ≡ some n
+pub numeral_digits : (b k n : ℕ) → 0 < b → b ≤ 16 → n < b ^ k → numeral b 0 (digits b k n) ≡ Some n
 unfolding digits numeral more
-numeral_digits b zero n p h l = let z : 0 ≡ n = omega (arith, pow-zero b) in ap some z
+numeral_digits b zero n p h l = let z : 0 ≡ n = omega (arith, pow-zero b) in ap Some z
 numeral_digits b (suc k) n p h l =
     let d : n % b < b = mod-lt n p in
     let e : digit (glyph (n % b)) ≡ n % b = digit_glyph (n % b) (lt_of_lt_of_le d h) in
-    let r : numeral b 0 (digits b k (n / b)) ≡ some (n / b) = numeral_digits b k (n / b) p h ((div-lt_iff_lt-mul p).1 (subst (λ (m : ℕ). n < m) (pow-suc b k) l)) in
+    let r : numeral b 0 (digits b k (n / b)) ≡ Some (n / b) = numeral_digits b k (n / b) p h ((div-lt_iff_lt-mul p).1 (subst (λ (m : ℕ). n < m) (pow-suc b k) l)) in
     numeral_snoc b 0 (digits b k (n / b)) (glyph (n % b)) ∙ rw (r, e, lt-ltb (n % b) b d, div-add-mod' n b)
 
 -- ---- floats
-pub float_back : (x : Float) → T (fits binary64 x) → float_of (float_word x) ≡ some x
+pub float_back : (x : Float) → T (fits binary64 x) → float_of (float_word x) ≡ Some x
 unfolding float_of float_word hex_of by_bits
 float_back x h =
     rw (eq-eqb (length (digits 16 16 (to_bits binary64 x))) 16 (length_digits 16 16 (to_bits binary64 x)), numeral_digits 16 16 (to_bits binary64 x) (lit< tt) (lit≤ tt) (to_bits-lt binary64 x h))
-    (ap some (of_bits-to_bits binary64 x h))
+    (ap Some (of_bits-to_bits binary64 x h))
 
 -- NaN is printed as 7ff8000000000000
 pub nan_word : float_word nan ≡ 55 ∷ 102 ∷ 102 ∷ 56 ∷ 48 ∷ 48 ∷ 48 ∷ 48 ∷ 48 ∷ 48 ∷ 48 ∷ 48 ∷ 48 ∷ 48 ∷ 48 ∷ 48 ∷ []
@@ -89,7 +89,7 @@ leading (suc k) n p h e =
     (sym (get_or-append (digits 10 (suc k) (n / 10)) (glyph (n % 10) ∷ []) 0 0 (subst (λ (m : ℕ). 0 < m) (sym (length_digits 10 (suc k) (n / 10))) (omega arith))) ∙ e)
 
 -- a word of that many digits reads as the number
-spelt : (n p : ℕ) → 1 ≤ p → 10 ^ (p - 1) ≤ n → n < 10 ^ p → n < 2 ^ 64 → whole_of (2 ^ 64) (digits 10 p n) ≡ some n
+spelt : (n p : ℕ) → 1 ≤ p → 10 ^ (p - 1) ≤ n → n < 10 ^ p → n < 2 ^ 64 → whole_of (2 ^ 64) (digits 10 p n) ≡ Some n
 spelt n zero z a b h = absurd (omega arith)
 spelt n (suc k) z a b h =
     let same : suc k - 1 ≡ k = omega arith in
@@ -98,7 +98,7 @@ spelt n (suc k) z a b h =
     ∙ ap (under (2 ^ 64)) (numeral_digits 10 (suc k) n (lit< tt) (lit≤ tt) b)
     ∙ under_some (2 ^ 64) n h
 
-pub whole_back : (n : ℕ) → n < 2 ^ 64 → whole_of (2 ^ 64) (whole_word n) ≡ some n
+pub whole_back : (n : ℕ) → n < 2 ^ 64 → whole_of (2 ^ 64) (whole_word n) ≡ Some n
 unfolding whole_word whole_of alone digits places_in glyph
 whole_back zero h = refl
 whole_back (suc n) h =

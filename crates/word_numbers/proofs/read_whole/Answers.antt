@@ -1,29 +1,16 @@
--- `word_numbers::read_whole` meets its contract: what is left of the word, behind the digits read, reads as the whole word does; a number too large stays so. Assumes nothing.
-use Rattle.std.proofs.Common.{sym, ap, ◌^◌, arith}
-use Rattle.word_numbers.specs.Numerals.{whole_empty, whole_zero, whole_leading, numeral_next, whole_stop, whole_over, whole_value}
-use Rattle.word_numbers.specs.Values.{whole_is}
+-- `word_numbers::read_whole` meets its contract: by its first digit. Assumes nothing.
+use Rattle.std.proofs.Common.{◌≡◌, ◌^◌, List, get_or, sym, ap, ◌∙◌, arith}
+use Rattle.word_numbers.specs.Numerals.{whole_empty, whole_zero, whole_plain}
 use Rattle.word_numbers.proofs.read_whole.Goals as goal
 
-pub returns-then-word-eq0 : goal.returns-then-word-eq0
-returns-then-word-eq0 c = rw (whole_empty _ _ c.if-word-eq0.true)
+pub returns-in_err-first : goal.returns-in_err-first
+returns-in_err-first c = c.from_residual.ensures ∙ sym (whole_empty (2 ^ 64) c.args.word.now c.in_err-first.ensures.cases)
 
-pub returns-then-word-eq1 : goal.returns-then-word-eq1
-returns-then-word-eq1 c = rw (whole_zero _ _ c.if-word-eq48.true c.if-word-eq1.true)
-
-pub returns-then-word-eq48 : goal.returns-then-word-eq48
-returns-then-word-eq48 c = rw (whole_leading _ _ c.if-word-eq48.true c.if-word-eq1.false)
-
-pub returns-then-d-ge10 : goal.returns-then-d-ge10
-returns-then-d-ge10 c = sym (ap whole_is (whole_stop _ c.loop-i.n c.args.word.now c.loop-i.i c.if-word-eq0.false c.if-word-eq48.false c.loop-i.invariant.2 c.digit-d.result (omega arith) c.digit-d.ensures (omega arith)))
-
-pub returns-then-n-gt-TENTH : goal.returns-then-n-gt-TENTH
-returns-then-n-gt-TENTH c = sym (ap whole_is (whole_over (2 ^ 64) c.loop-i.n c.args.word.now c.loop-i.i c.if-word-eq0.false c.if-word-eq48.false c.loop-i.invariant.2 c.digit-d.result (omega arith) c.digit-d.ensures (omega arith) (omega arith)))
-
-pub returns-then-t-d : goal.returns-then-t-d
-returns-then-t-d c = sym (ap whole_is (whole_over (2 ^ 64) c.loop-i.n c.args.word.now c.loop-i.i c.if-word-eq0.false c.if-word-eq48.false c.loop-i.invariant.2 c.digit-d.result (omega arith) c.digit-d.ensures (omega arith) (omega arith)))
-
-pub loop-i-preserved : goal.loop-i-preserved
-loop-i-preserved c = (omega arith, omega arith, numeral_next 10 _ c.args.word.now c.loop-i.i c.digit-d.result (omega arith) c.digit-d.ensures (omega arith) c.loop-i.invariant.2)
+pub returns-then-first-eq48 : goal.returns-then-first-eq48
+returns-then-first-eq48 c = rw (c.then_some.ensures, c.is_empty.ensures) (sym (whole_zero (2 ^ 64) _ _ _ c.in_ok-first.ensures.cases.0 c.if-first-eq48.true))
 
 pub returns : goal.returns
-returns c = sym (ap whole_is (whole_value (2 ^ 64) c.loop-i.n c.args.word.now c.loop-i.i c.if-word-eq0.false c.if-word-eq48.false c.loop-i.invariant.2 (omega arith) (omega arith)))
+returns c =
+    let is = c.in_ok-first.ensures.cases in
+    let first : get_or c.args.word.now 0 0 ≡ c.in_ok-first.first.now = ap (λ (w : List _). get_or w 0 0) is.0 in
+    c.numeral.ensures ∙ sym (whole_plain (2 ^ 64) c.args.word.now (λ e. omega (arith, is.1)) (λ e. c.if-first-eq48.false (sym first ∙ e)))
