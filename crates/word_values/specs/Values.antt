@@ -1,18 +1,8 @@
--- What the enums of flags and tolerances stand for. Definitions only.
-use Rattle.std.specs.Prelude.{Bool, true, false, Float}
-use Rattle.std.proofs.Math.Option.{Option, none, some}
-use Rattle.word_values.specs.declared.Flag.{Flag}
-use Rattle.word_values.specs.declared.Tolerance.{Tolerance}
+-- What a tolerance reads as. Definitions only.
+use Rattle.std.specs.Prelude.{ℕ, List, Option, Some, None, if◌then◌else◌, option_map}
+use Rattle.std.specs.Float.Ieee.{Float}
+use Rattle.word_numbers.specs.Reading.{float_of, is_dash}
 
-abbrev pub flag_is : Option Bool → Flag
-flag_is none = Flag.Other
-flag_is (some b) = Flag.Value b
-
-abbrev pub set_is : Option Float → Tolerance
-set_is none = Tolerance.Other
-set_is (some x) = Tolerance.Set x
-
--- a dash, or a float
-abbrev pub tolerance_is : Bool → Option Float → Tolerance
-tolerance_is true x = Tolerance.Missing
-tolerance_is false x = set_is x
+-- a dash, which says that it is missing, or a float
+abbrev pub tolerance_of : List ℕ → Option (Option Float)
+tolerance_of w = if is_dash w then Some None else option_map Some (float_of w)
