@@ -2,11 +2,9 @@
 #![tactic(auto)]
 
 ghost use Rattle.std.specs.Prelude.{◌≡◌};
-ghost use Rattle.keywords.specs.Keywords.{keyword_of, start_of};
+ghost use Rattle.keywords.specs.Keywords.{keyword_of};
 
-use words::same;
-
-#[derive(Drop)]
+#[derive(Clone, Copy, PartialEq, Eq, Debug, Drop)]
 pub enum Keyword {
     Inner,
     Loop,
@@ -19,52 +17,24 @@ pub enum Keyword {
     Failure,
     Lend,
     Show,
-    Other,
 }
 
-// The words that begin an answer, or another one.
-pub fn begins(w: &[u8]) -> Keyword
+// The words that begin a line.
+pub fn begins(w: &[u8]) -> Option<Keyword>
     ensures { result ≡ keyword_of w.now }
 {
-    if same(w, b"vector") {
-        return Keyword::Vector;
+    match w {
+        b"inner" => Some(Keyword::Inner),
+        b"loop" => Some(Keyword::Loop),
+        b"psi" => Some(Keyword::Psi),
+        b"d_psi" => Some(Keyword::DPsi),
+        b"number" => Some(Keyword::Number),
+        b"vector" => Some(Keyword::Vector),
+        b"yes" => Some(Keyword::Yes),
+        b"no" => Some(Keyword::No),
+        b"failure" => Some(Keyword::Failure),
+        b"lend" => Some(Keyword::Lend),
+        b"show" => Some(Keyword::Show),
+        _ => None,
     }
-    if same(w, b"number") {
-        return Keyword::Number;
-    }
-    if same(w, b"yes") {
-        return Keyword::Yes;
-    }
-    if same(w, b"no") {
-        return Keyword::No;
-    }
-    if same(w, b"failure") {
-        return Keyword::Failure;
-    }
-    if same(w, b"show") {
-        return Keyword::Show;
-    }
-    if same(w, b"lend") {
-        return Keyword::Lend;
-    }
-    of_start(w)
-}
-
-// The words that begin a start.
-fn of_start(w: &[u8]) -> Keyword
-    ensures { result ≡ start_of w.now }
-{
-    if same(w, b"inner") {
-        return Keyword::Inner;
-    }
-    if same(w, b"loop") {
-        return Keyword::Loop;
-    }
-    if same(w, b"psi") {
-        return Keyword::Psi;
-    }
-    if same(w, b"d_psi") {
-        return Keyword::DPsi;
-    }
-    Keyword::Other
 }

@@ -1,36 +1,13 @@
--- `keywords::begins` meets its contract: the tests in turn. Assumes nothing.
-use Rattle.std.proofs.Common.{sym, ◌∙◌}
-use Rattle.keywords.specs.Keywords.{keyword_of, bytes}
+-- `keywords::begins` meets its contract: the longer words, of which each byte is read. Assumes nothing.
+use Rattle.std.proofs.Common.{codes, rules, arith}
+use Rattle.std.proofs.lemmas.Slice.Eq.{text_from_reads}
 use Rattle.keywords.proofs.begins.Goals as goal
 
-pub returns-then-same : goal.returns-then-same
-unfolding keyword_of bytes
-returns-then-same c = rw (sym c.same.ensures ∙ c.if-same.true)
+pub returns-in-number : goal.returns-in-number
+returns-in-number c = rw (text_from_reads c.args.w.now (codes "number") (omega arith) (search rules))
 
-pub returns-then-same-2 : goal.returns-then-same-2
-unfolding keyword_of bytes
-returns-then-same-2 c = rw (sym c.same.ensures ∙ c.if-same.false, sym c.same-2.ensures ∙ c.if-same-2.true)
+pub returns-in-vector : goal.returns-in-vector
+returns-in-vector c = rw (text_from_reads c.args.w.now (codes "vector") (omega arith) (search rules))
 
-pub returns-then-same-3 : goal.returns-then-same-3
-unfolding keyword_of bytes
-returns-then-same-3 c = rw (sym c.same.ensures ∙ c.if-same.false, sym c.same-2.ensures ∙ c.if-same-2.false, sym c.same-3.ensures ∙ c.if-same-3.true)
-
-pub returns-then-same-4 : goal.returns-then-same-4
-unfolding keyword_of bytes
-returns-then-same-4 c = rw (sym c.same.ensures ∙ c.if-same.false, sym c.same-2.ensures ∙ c.if-same-2.false, sym c.same-3.ensures ∙ c.if-same-3.false, sym c.same-4.ensures ∙ c.if-same-4.true)
-
-pub returns-then-same-5 : goal.returns-then-same-5
-unfolding keyword_of bytes
-returns-then-same-5 c = rw (sym c.same.ensures ∙ c.if-same.false, sym c.same-2.ensures ∙ c.if-same-2.false, sym c.same-3.ensures ∙ c.if-same-3.false, sym c.same-4.ensures ∙ c.if-same-4.false, sym c.same-5.ensures ∙ c.if-same-5.true)
-
-pub returns-then-same-6 : goal.returns-then-same-6
-unfolding keyword_of bytes
-returns-then-same-6 c = rw (sym c.same.ensures ∙ c.if-same.false, sym c.same-2.ensures ∙ c.if-same-2.false, sym c.same-3.ensures ∙ c.if-same-3.false, sym c.same-4.ensures ∙ c.if-same-4.false, sym c.same-5.ensures ∙ c.if-same-5.false, sym c.same-6.ensures ∙ c.if-same-6.true)
-
-pub returns-then-same-7 : goal.returns-then-same-7
-unfolding keyword_of bytes
-returns-then-same-7 c = rw (sym c.same.ensures ∙ c.if-same.false, sym c.same-2.ensures ∙ c.if-same-2.false, sym c.same-3.ensures ∙ c.if-same-3.false, sym c.same-4.ensures ∙ c.if-same-4.false, sym c.same-5.ensures ∙ c.if-same-5.false, sym c.same-6.ensures ∙ c.if-same-6.false, sym c.same-7.ensures ∙ c.if-same-7.true)
-
-pub returns : goal.returns
-unfolding keyword_of bytes
-returns c = rw (sym c.same.ensures ∙ c.if-same.false, sym c.same-2.ensures ∙ c.if-same-2.false, sym c.same-3.ensures ∙ c.if-same-3.false, sym c.same-4.ensures ∙ c.if-same-4.false, sym c.same-5.ensures ∙ c.if-same-5.false, sym c.same-6.ensures ∙ c.if-same-6.false, sym c.same-7.ensures ∙ c.if-same-7.false) c.of_start.ensures
+pub returns-in-failure : goal.returns-in-failure
+returns-in-failure c = rw (text_from_reads c.args.w.now (codes "failure") (omega arith) (search rules))
