@@ -1,3 +1,2 @@
 pub mod Fields
-pub mod FieldLaws
-pub mod FloatLaws
+pub mod Left

@@ -1,195 +1,108 @@
-// The fields of a line, read one behind the other. A place past the line's end by one says that nothing is left; BAD says that a word was
-// of another form.
+// The fields of a line, read one behind the other.
 #![tactic(auto)]
 
-ghost use Rattle.std.specs.Prelude.{◌≡◌, Bool, eqb, suc, length};
-ghost use Rattle.line_fields.specs.Fields.{left_at, Gives, GivesFloats, whole_field, code_field, flag_field, float_field, tolerance_field, floats_field};
+ghost use Rattle.std.specs.Prelude.{◌≡◌, ◌≤◌, [], drop, length, ◌==◌, option_map};
+ghost use Rattle.std.specs.Iterator.{YieldsFirstRef};
+ghost use Rattle.words.specs.Splitting.{words_of};
+ghost use Rattle.line_fields.specs.Fields.{whole_field, code_field, flag_field, float_field, tolerance_field, floats_field, rest_field, Gives};
+ghost use Rattle.line_fields.specs.Left.{left};
 
-use float_words::{Real, read_float};
-use word_numbers::{Whole, read_whole, read_whole32};
-use word_values::{Flag, Tolerance, read_flag, read_tolerance};
-use words::word;
+use arrayvec::ArrayVec;
+use float_words::read_float;
+use word_numbers::{read_whole, read_whole32};
+use word_values::{read_flag, read_tolerance};
+use words::Words;
 
-const BAD: usize = 18446744073709551615;
-
+// What is left of a line. A field that is read is used up, of whatever form it is.
 #[derive(Drop)]
-pub struct WholeAt {
-    pub value: u64,
-    pub next: usize,
+pub struct Fields<'a> {
+    words: Words<'a>,
 }
 
-#[derive(Drop)]
-pub struct FlagAt {
-    pub value: bool,
-    pub next: usize,
-}
-
-#[derive(Drop)]
-pub struct FloatAt {
-    pub value: f64,
-    pub next: usize,
-}
-
-#[derive(Drop)]
-pub struct ToleranceAt {
-    pub value: Tolerance,
-    pub next: usize,
-}
-
-// How many floats were read.
-#[derive(Drop)]
-pub struct FloatsAt {
-    pub count: usize,
-    pub next: usize,
-}
-
-// A whole number below 2^64.
-pub fn whole_at(line: &[u8], at: usize) -> WholeAt
-    ensures { Gives (whole_field (left_at line.now at)) result.value (left_at line.now result.next) }
-{
-    if line.len() < at {
-        return WholeAt {
-            value: 0,
-            next: BAD,
-        };
-    }
-    let w = word(line, at);
-    match read_whole(w) {
-        Whole::Value(value) => WholeAt {
-            value,
-            next: at + w.len() + 1,
-        },
-        Whole::Other => WholeAt {
-            value: 0,
-            next: BAD,
-        },
-    }
-}
-
-// A whole number below 2^32.
-pub fn code_at(line: &[u8], at: usize) -> WholeAt
-    ensures { Gives (code_field (left_at line.now at)) result.value (left_at line.now result.next) }
-{
-    if line.len() < at {
-        return WholeAt {
-            value: 0,
-            next: BAD,
-        };
-    }
-    let w = word(line, at);
-    match read_whole32(w) {
-        Whole::Value(value) => WholeAt {
-            value,
-            next: at + w.len() + 1,
-        },
-        Whole::Other => WholeAt {
-            value: 0,
-            next: BAD,
-        },
-    }
-}
-
-// 0 or 1.
-pub fn flag_at(line: &[u8], at: usize) -> FlagAt
-    ensures { Gives (flag_field (left_at line.now at)) result.value (left_at line.now result.next) }
-{
-    if line.len() < at {
-        return FlagAt {
-            value: false,
-            next: BAD,
-        };
-    }
-    let w = word(line, at);
-    match read_flag(w) {
-        Flag::Value(value) => FlagAt {
-            value,
-            next: at + w.len() + 1,
-        },
-        Flag::Other => FlagAt {
-            value: false,
-            next: BAD,
-        },
-    }
-}
-
-// A float.
-pub fn float_at(line: &[u8], at: usize) -> FloatAt
-    ensures { Gives (float_field (left_at line.now at)) result.value (left_at line.now result.next) }
-{
-    if line.len() < at {
-        return FloatAt {
-            value: 0.0,
-            next: BAD,
-        };
-    }
-    let w = word(line, at);
-    match read_float(w) {
-        Real::Value(value) => FloatAt {
-            value,
-            next: at + w.len() + 1,
-        },
-        Real::Other => FloatAt {
-            value: 0.0,
-            next: BAD,
-        },
-    }
-}
-
-// A float, or a dash.
-pub fn tolerance_at(line: &[u8], at: usize) -> ToleranceAt
-    ensures { Gives (tolerance_field (left_at line.now at)) result.value (left_at line.now result.next) }
-{
-    if line.len() < at {
-        return ToleranceAt {
-            value: Tolerance::Other,
-            next: BAD,
-        };
-    }
-    let w = word(line, at);
-    match read_tolerance(w) {
-        Tolerance::Missing => ToleranceAt {
-            value: Tolerance::Missing,
-            next: at + w.len() + 1,
-        },
-        Tolerance::Set(x) => ToleranceAt {
-            value: Tolerance::Set(x),
-            next: at + w.len() + 1,
-        },
-        Tolerance::Other => ToleranceAt {
-            value: Tolerance::Other,
-            next: BAD,
-        },
-    }
-}
-
-// Floats up to the line's end, and no more than the slice has places.
-pub fn floats_at(line: &[u8], at: usize, out: &mut [f64]) -> FloatsAt
-    ensures { GivesFloats (floats_field (length out.old) (left_at line.now at)) result.count out.new (left_at line.now result.next) }
-{
-    let mut count = 0usize;
-    let mut next = at;
-    while count < out.len() {
-        if line.len() < next {
-            return FloatsAt { count, next };
-        }
-        let w = word(line, next);
-        match read_float(w) {
-            Real::Value(x) => {
-                out[count] = x;
-                count += 1;
-                next = next + w.len() + 1;
-            }
-            Real::Other => {
-                return FloatsAt { count, next: BAD };
-            }
+#[tactic(auto, unfolding(crate::specs::Fields::field_by))]
+impl<'a> Fields<'a> {
+    pub fn of(line: &'a [u8]) -> Self
+        ensures { left result ≡ words_of line.now }
+    {
+        Fields {
+            words: Words::of(line),
         }
     }
-    FloatsAt { count, next }
-}
 
-// Whether nothing is left behind a place.
-pub fn ended(line: &[u8], at: usize) -> bool
-    ensures { result ≡ eqb at (suc (length line.now)) }
-{
-    at == line.len() + 1
+    // The next word, as it stands.
+    pub fn word(&mut self) -> Option<&'a [u8]>
+        ensures { YieldsFirstRef left self.old result self.new }
+    {
+        self.words.next()
+    }
+
+    // A whole number below 2^64.
+    pub fn whole(&mut self) -> Option<u64>
+        ensures value { Gives (whole_field (left self.old)) result (left self.new) }
+        ensures used { left self.new ≡ drop 1 (left self.old) }
+    {
+        read_whole(self.words.next()?)
+    }
+
+    // A whole number below 2^32.
+    pub fn code(&mut self) -> Option<u32>
+        ensures value { Gives (code_field (left self.old)) result (left self.new) }
+        ensures used { left self.new ≡ drop 1 (left self.old) }
+    {
+        read_whole32(self.words.next()?)
+    }
+
+    // 0 or 1.
+    pub fn flag(&mut self) -> Option<bool>
+        ensures value { Gives (flag_field (left self.old)) result (left self.new) }
+        ensures used { left self.new ≡ drop 1 (left self.old) }
+    {
+        read_flag(self.words.next()?)
+    }
+
+    // A float.
+    pub fn float(&mut self) -> Option<f64>
+        ensures value { Gives (float_field (left self.old)) result (left self.new) }
+        ensures used { left self.new ≡ drop 1 (left self.old) }
+    {
+        read_float(self.words.next()?)
+    }
+
+    // A float, or a dash where it is missing.
+    pub fn tolerance(&mut self) -> Option<Option<f64>>
+        ensures value { Gives (tolerance_field (left self.old)) result (left self.new) }
+        ensures used { left self.new ≡ drop 1 (left self.old) }
+    {
+        read_tolerance(self.words.next()?)
+    }
+
+    // n floats, and the fields behind them.
+    pub fn floats<const N: usize>(mut self, n: usize) -> Option<(ArrayVec<f64, N>, Self)>
+        requires { n ≤ N }
+        ensures { option_map (λ r. (r.0.items, left r.1)) result ≡ floats_field [] n (left self.entry) }
+    {
+        let mut floats = ArrayVec::new();
+        for _ in 0..n {
+            floats.push(self.float()?);
+        }
+        Some((floats, self))
+    }
+
+    // All that is left, as at most N floats.
+    pub fn rest<const N: usize>(self) -> Option<ArrayVec<f64, N>>
+        ensures { option_map (λ r. r.items) result ≡ rest_field N [] (left self.entry) }
+    {
+        let mut floats = ArrayVec::new();
+        for word in self.words {
+            floats.try_push(read_float(word)?).ok()?;
+        }
+        Some(floats)
+    }
+
+    // Whether nothing is left.
+    pub fn ended(mut self) -> bool
+        ensures { result ≡ (length (left self.entry) == 0) }
+    {
+        self.words.next().is_none()
+    }
 }
