@@ -1,155 +1,134 @@
 -- What a line says: TRANSCRIPT.md, "Calls that start a run" and "Calls that answer". Definitions only.
-use Rattle.std.specs.Prelude.{ℕ, ◌≤◌, ◌≡◌, cond, List, [], ◌∷◌, ltb, eqb, length, take, Float}
-use Rattle.std.proofs.Math.Option.{none, some}
+use Rattle.std.specs.Prelude.{ℕ, List, [], ◌∷◌, Option, Some, None, option_and_then, nat_lt, if◌then◌else◌}
+use Rattle.std.specs.Float.Ieee.{Float}
 use Rattle.words.specs.Splitting.{words_of}
 use Rattle.keywords.specs.declared.Keyword.{Keyword}
 use Rattle.line_starts.specs.declared.command.Command.{Command}
 use Rattle.line_starts.specs.declared.command.Given.{Given}
+use Rattle.line_starts.specs.declared.command.PsiStart.{PsiStart}
 use Rattle.line_starts.specs.declared.command.Said.{Said}
-use Rattle.line_fields.specs.Fields.{Left, whole_field, code_field, flag_field, float_field, tolerance_field, floats_field}
+use Rattle.line_fields.specs.Fields.{Left, Field, ◌>>=◌, whole_field, code_field, flag_field, float_field, tolerance_field, floats_field, rest_field}
 use Rattle.keywords.specs.Keywords.{keyword_of}
 
--- a command, with the floats behind it: u or the vector, and xi
-pub record Meant : Type 0 where
-  pub command : Command
-  pub first : List Float
-  pub second : List Float
+-- N N1 N2
+unfoldable pub sizes_field : Left → Field PsiStart
+sizes_field s = do
+  (n, s) ← whole_field s
+  (n1, s) ← whole_field s
+  (n2, s) ← whole_field s
+  Some (record { n = n; n1 = n1; n2 = n2 }, s)
 
-abbrev pub plain : Command → Meant
-plain c = record { command = c; first = []; second = [] }
+-- a and b are how many places may be lent of u and of xi; none for a line of another form
+module _ (a b : ℕ) where
+  -- a command, with the floats behind it: u or the vector, and xi
+  abbrev pub with_floats : Command → List Float → List Float → Said a b
+  with_floats c us xis = record { command = c; first = record { items = us }; second = record { items = xis } }
 
-abbrev pub bad : Meant
-bad = plain Command.Bad
+  abbrev pub plain : Command → Said a b
+  plain c = with_floats c [] []
 
--- nothing may be left
-abbrev pub closed : Left → Meant → Meant
-closed none m = bad
-closed (some []) m = m
-closed (some (w ∷ ws)) m = bad
+  -- nothing may be left
+  abbrev pub closed : Left → Command → Option (Said a b)
+  closed [] c = Some (plain c)
+  closed (w ∷ s) c = None
 
--- an answer without a vector
-abbrev pub answered : Left → Given → Meant
-answered s g = closed s (plain (Command.Answer g))
+  -- an answer without a vector
+  abbrev pub answered : Left → Given → Option (Said a b)
+  answered s g = closed s (Command.Answer g)
 
--- number X
-unfoldable pub number_line : Left → Meant
-number_line s = let x = float_field s in answered x.left (Given.Number x.value)
+  -- number X
+  unfoldable pub number_line : Left → Option (Said a b)
+  number_line s = do
+    (x, s) ← float_field s
+    answered s (Given.Number x)
 
--- vector X...
-unfoldable pub vector_line : ℕ → Left → Meant
-vector_line a s = let v = floats_field a s in closed v.left (record { command = Command.Answer Given.Vector; first = v.value; second = [] })
+  -- vector X...
+  unfoldable pub vector_line : Left → Option (Said a b)
+  vector_line s = do
+    xs ← rest_field a [] s
+    Some (with_floats (Command.Answer Given.Vector) xs [])
 
--- failure CODE
-unfoldable pub failure_line : Left → Meant
-failure_line s = let c = code_field s in answered c.left (Given.Failure c.value)
+  -- failure CODE
+  unfoldable pub failure_line : Left → Option (Said a b)
+  failure_line s = do
+    (code, s) ← code_field s
+    answered s (Given.Failure code)
 
--- lend LENGTH_U LENGTH_XI
-unfoldable pub lend_line : ℕ → ℕ → Left → Meant
-lend_line a b s =
-    let u = whole_field s in
-    let xi = whole_field u.left in
-    cond (ltb a u.value) bad (cond (ltb b xi.value) bad (closed xi.left (plain (Command.Lend u.value xi.value))))
+  -- lend LENGTH_U LENGTH_XI
+  unfoldable pub lend_line : Left → Option (Said a b)
+  lend_line s = do
+    (u, s) ← whole_field s
+    (xi, s) ← whole_field s
+    if nat_lt a u then None else if nat_lt b xi then None else closed s (Command.Lend u xi)
 
--- .. LENGTH_U U... XI...
-unfoldable pub lent_line : ℕ → ℕ → Command → Left → Meant
-lent_line a b c s =
-    let k = whole_field s in
-    let u = floats_field k.value k.left in
-    let xi = floats_field b u.left in
-    cond (ltb a k.value) bad (cond (eqb (length u.value) k.value) (closed xi.left (record { command = c; first = u.value; second = xi.value })) bad)
+  -- .. LENGTH_U U... XI...
+  unfoldable pub lent_line : Command → Left → Option (Said a b)
+  lent_line c s = do
+    (n, s) ← whole_field s
+    if nat_lt a n then None else do
+      (us, s) ← floats_field [] n s
+      xis ← rest_field b [] s
+      Some (with_floats c us xis)
 
--- inner N M LIMITED TOLERANCE AKKT U...
-unfoldable pub inner_line : ℕ → Left → Meant
-inner_line a s =
-    let n = whole_field s in
-    let m = whole_field n.left in
-    let limited = flag_field m.left in
-    let tolerance = float_field limited.left in
-    let akkt = tolerance_field tolerance.left in
-    let u = floats_field a akkt.left in
-    closed u.left (record {
-      command = Command.Inner (record { n = n.value; m = m.value; limited = limited.value; tolerance = tolerance.value; akkt = akkt.value });
-      first = u.value;
-      second = [];
-    })
+  -- inner N M LIMITED TOLERANCE AKKT U...
+  unfoldable pub inner_line : Left → Option (Said a b)
+  inner_line s = do
+    (n, s) ← whole_field s
+    (m, s) ← whole_field s
+    (limited, s) ← flag_field s
+    (tolerance, s) ← float_field s
+    (akkt, s) ← tolerance_field s
+    us ← rest_field a [] s
+    Some (with_floats (Command.Inner (record { n = n; m = m; limited = limited; tolerance = tolerance; akkt = akkt })) us [])
 
--- loop N N1 N2 Y M K LIMITED TOLERANCE EPSILON DELTA AKKT PENALTY_FACTOR EPSILON_FACTOR COEFFICIENT LENGTH_U U... XI...
-unfoldable pub loop_line : ℕ → ℕ → Left → Meant
-loop_line a b s =
-    let n = whole_field s in
-    let n1 = whole_field n.left in
-    let n2 = whole_field n1.left in
-    let y = flag_field n2.left in
-    let m = whole_field y.left in
-    let k = whole_field m.left in
-    let limited = flag_field k.left in
-    let tolerance = float_field limited.left in
-    let epsilon = float_field tolerance.left in
-    let delta = float_field epsilon.left in
-    let akkt = float_field delta.left in
-    let penalty = float_field akkt.left in
-    let factor = float_field penalty.left in
-    let coefficient = float_field factor.left in
-    lent_line a b
-    (Command.Loop (record {
-      n = n.value;
-      n1 = n1.value;
-      n2 = n2.value;
-      y = y.value;
-      m = m.value;
-      k = k.value;
-      limited = limited.value;
-      tolerance = tolerance.value;
-      epsilon = epsilon.value;
-      delta = delta.value;
-      akkt = akkt.value;
-      penalty = penalty.value;
-      factor = factor.value;
-      coefficient = coefficient.value;
-    }))
-    coefficient.left
+  -- loop N N1 N2 Y M K LIMITED TOLERANCE EPSILON DELTA AKKT PENALTY_FACTOR EPSILON_FACTOR COEFFICIENT LENGTH_U U... XI...
+  unfoldable pub loop_line : Left → Option (Said a b)
+  loop_line s = do
+    (sizes, s) ← sizes_field s
+    (y, s) ← flag_field s
+    (m, s) ← whole_field s
+    (k, s) ← whole_field s
+    (limited, s) ← flag_field s
+    (tolerance, s) ← float_field s
+    (epsilon, s) ← float_field s
+    (delta, s) ← float_field s
+    (akkt, s) ← float_field s
+    (penalty, s) ← float_field s
+    (factor, s) ← float_field s
+    (coefficient, s) ← float_field s
+    let c : Command = Command.Loop (record { n = sizes.n; n1 = sizes.n1; n2 = sizes.n2; y = y; m = m; k = k; limited = limited; tolerance = tolerance; epsilon = epsilon; delta = delta; akkt = akkt; penalty = penalty; factor = factor; coefficient = coefficient })
+    lent_line c s
 
--- psi N N1 N2 LENGTH_U U... XI..., and d_psi
-unfoldable pub psi_line : ℕ → ℕ → Left → Meant
-psi_line a b s =
-    let n = whole_field s in
-    let n1 = whole_field n.left in
-    let n2 = whole_field n1.left in
-    lent_line a b (Command.Psi (record { n = n.value; n1 = n1.value; n2 = n2.value })) n2.left
+  -- psi N N1 N2 LENGTH_U U... XI..., and d_psi
+  unfoldable pub psi_line : Left → Option (Said a b)
+  psi_line s = do
+    (sizes, s) ← sizes_field s
+    lent_line (Command.Psi sizes) s
 
-unfoldable pub d_psi_line : ℕ → ℕ → Left → Meant
-d_psi_line a b s =
-    let n = whole_field s in
-    let n1 = whole_field n.left in
-    let n2 = whole_field n1.left in
-    lent_line a b (Command.DPsi (record { n = n.value; n1 = n1.value; n2 = n2.value })) n2.left
+  unfoldable pub d_psi_line : Left → Option (Said a b)
+  d_psi_line s = do
+    (sizes, s) ← sizes_field s
+    lent_line (Command.DPsi sizes) s
 
--- by the first word; a and b are how many places may be lent of u and of xi
-unfoldable pub line_by : ℕ → ℕ → Keyword → Left → Meant
-line_by a b Keyword.Inner s = inner_line a s
-line_by a b Keyword.Loop s = loop_line a b s
-line_by a b Keyword.Psi s = psi_line a b s
-line_by a b Keyword.DPsi s = d_psi_line a b s
-line_by a b Keyword.Number s = number_line s
-line_by a b Keyword.Vector s = vector_line a s
-line_by a b Keyword.Yes s = answered s Given.Yes
-line_by a b Keyword.No s = answered s Given.No
-line_by a b Keyword.Failure s = failure_line s
-line_by a b Keyword.Lend s = lend_line a b s
-line_by a b Keyword.Show s = closed s (plain Command.Show)
-line_by a b Keyword.Other s = bad
+  -- by the first word
+  unfoldable pub line_by : Keyword → Left → Option (Said a b)
+  line_by Keyword.Inner s = inner_line s
+  line_by Keyword.Loop s = loop_line s
+  line_by Keyword.Psi s = psi_line s
+  line_by Keyword.DPsi s = d_psi_line s
+  line_by Keyword.Number s = number_line s
+  line_by Keyword.Vector s = vector_line s
+  line_by Keyword.Yes s = answered s Given.Yes
+  line_by Keyword.No s = answered s Given.No
+  line_by Keyword.Failure s = failure_line s
+  line_by Keyword.Lend s = lend_line s
+  line_by Keyword.Show s = closed s Command.Show
 
-unfoldable pub by_words : ℕ → ℕ → List (List ℕ) → Meant
-by_words a b [] = bad
-by_words a b (w ∷ ws) = line_by a b (keyword_of w) (some ws)
+  unfoldable pub by_words : Left → Option (Said a b)
+  by_words [] = None
+  by_words (w ∷ s) = do
+    k ← keyword_of w
+    line_by k s
 
-unfoldable pub meant : ℕ → ℕ → List ℕ → Meant
-meant a b line = by_words a b (words_of line)
-
--- what a call says, with the lent slices as they are afterwards
-pub record Says (m : Meant) (r : Said) (xs ys : List Float) : Type 0 where
-  pub command : r.command ≡ m.command
-  pub within : r.first ≤ length xs
-  pub first : take r.first xs ≡ m.first
-  pub more : r.second ≤ length ys
-  pub second : take r.second ys ≡ m.second
+  unfoldable pub meant : List ℕ → Option (Said a b)
+  meant line = by_words (words_of line)

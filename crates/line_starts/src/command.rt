@@ -1,18 +1,18 @@
 // A line as a command.
-use word_values::Tolerance;
+use arrayvec::ArrayVec;
 
-// What an inner solve is started with, less u.
-#[derive(Drop)]
+// What an inner solve is started with, less u. A tolerance may be missing.
+#[derive(Clone, Copy, PartialEq, Debug, Drop)]
 pub struct InnerStart {
     pub n: u64,
     pub m: u64,
     pub limited: bool,
     pub tolerance: f64,
-    pub akkt: Tolerance,
+    pub akkt: Option<f64>,
 }
 
 // What the loop is started with, less u and xi.
-#[derive(Drop)]
+#[derive(Clone, Copy, PartialEq, Debug, Drop)]
 pub struct LoopStart {
     pub n: u64,
     pub n1: u64,
@@ -31,40 +31,38 @@ pub struct LoopStart {
 }
 
 // What psi and d_psi are started with, less u and xi.
-#[derive(Drop)]
+#[derive(Clone, Copy, PartialEq, Eq, Debug, Drop)]
 pub struct PsiStart {
     pub n: u64,
     pub n1: u64,
     pub n2: u64,
 }
 
-// An answer; the vector stands beside it.
-#[derive(Drop)]
+// An answer; the vector stands beside it. A failure's code is below 2^32.
+#[derive(Clone, Copy, PartialEq, Debug, Drop)]
 pub enum Given {
     Number(f64),
     Vector,
     Yes,
     No,
-    Failure(u64),
+    Failure(u32),
 }
 
-// Bad: a line of another form.
-#[derive(Drop)]
+#[derive(Clone, Copy, PartialEq, Debug, Drop)]
 pub enum Command {
-    Bad,
     Inner(InnerStart),
     Loop(LoopStart),
     Psi(PsiStart),
     DPsi(PsiStart),
     Answer(Given),
-    Lend(u64, u64),
+    Lend(usize, usize),
     Show,
 }
 
-// A command, with how many floats stand in the first and in the second lent slice: u or the vector, and xi.
+// A command with the floats behind it: u or the vector, and xi.
 #[derive(Drop)]
-pub struct Said {
+pub struct Said<const U: usize, const XI: usize> {
     pub command: Command,
-    pub first: usize,
-    pub second: usize,
+    pub first: ArrayVec<f64, U>,
+    pub second: ArrayVec<f64, XI>,
 }

@@ -3,45 +3,42 @@
 
 pub mod command;
 
-ghost use Rattle.std.specs.Prelude.{List, length, Float};
-ghost use Rattle.line_fields.specs.Fields.{left_at};
-ghost use Rattle.line_starts.specs.Lines.{Says, plain, lent_line};
+ghost use Rattle.std.specs.Prelude.{◌≡◌};
+ghost use Rattle.line_fields.specs.Left.{left};
+ghost use Rattle.line_starts.specs.Lines.{plain, lent_line};
 
+use arrayvec::ArrayVec;
 use command::{Command, Said};
-use line_fields::{ended, floats_at, whole_at};
+use line_fields::Fields;
 
 // A command without floats.
-pub fn alone(command: Command) -> Said
-    ensures { (xs ys : List Float) → Says (plain command) result xs ys }
+pub fn alone<const U: usize, const XI: usize>(command: Command) -> Said<U, XI>
+    ensures { result ≡ plain U XI command }
 {
     Said {
         command,
-        first: 0,
-        second: 0,
+        first: ArrayVec::new(),
+        second: ArrayVec::new(),
     }
 }
 
 // The floats behind the settings: LENGTH_U U... XI...
-pub fn lent(line: &[u8], at: usize, command: Command, first: &mut [f64], second: &mut [f64]) -> Said
-    ensures { Says (lent_line (length first.old) (length second.old) command (left_at line.now at)) result first.new second.new }
+#[tactic(auto, unfolding(crate::specs::Lines::lent_line))]
+pub fn lent<const U: usize, const XI: usize>(
+    mut fields: Fields,
+    command: Command,
+) -> Option<Said<U, XI>>
+    ensures { result ≡ lent_line U XI command (left fields.entry) }
 {
-    let k = whole_at(line, at);
-    if (first.len() as u64) < k.value {
-        return alone(Command::Bad);
+    let n = fields.whole()?;
+    if n > U as u64 {
+        return None;
     }
-    let n = k.value as usize;
-    let u = floats_at(line, k.next, &mut first[..n]);
-    let xi = floats_at(line, u.next, second);
-    if u.count != n {
-        return alone(Command::Bad);
-    }
-    if ended(line, xi.next) {
-        Said {
-            command,
-            first: u.count,
-            second: xi.count,
-        }
-    } else {
-        alone(Command::Bad)
-    }
+    let (first, fields) = fields.floats(n as usize)?;
+    let second = fields.rest()?;
+    Some(Said {
+        command,
+        first,
+        second,
+    })
 }
