@@ -1,68 +1,71 @@
 // The lines that answer, and those that lend and show.
 #![tactic(auto)]
 
-ghost use Rattle.std.specs.Prelude.{List, ℕ, length, Float};
-ghost use Rattle.line_fields.specs.Fields.{left_at};
-ghost use Rattle.line_starts.specs.Lines.{Says, plain, closed, number_line, vector_line, failure_line, lend_line};
+ghost use Rattle.std.specs.Prelude.{◌≡◌};
+ghost use Rattle.line_fields.specs.Left.{left};
+ghost use Rattle.line_starts.specs.Lines.{closed, number_line, vector_line, failure_line, lend_line};
 
-use line_fields::{code_at, ended, float_at, floats_at, whole_at};
+use arrayvec::ArrayVec;
+use line_fields::Fields;
 use line_starts::alone;
 use line_starts::command::{Command, Given, Said};
 
 // A command without further fields.
-pub fn bare(line: &[u8], at: usize, command: Command) -> Said
-    ensures { (xs ys : List Float) → Says (closed (left_at line.now at) (plain command)) result xs ys }
+pub fn bare<const U: usize, const XI: usize>(
+    fields: Fields,
+    command: Command,
+) -> Option<Said<U, XI>>
+    ensures { result ≡ closed U XI (left fields.entry) command }
 {
-    if ended(line, at) {
-        alone(command)
+    if fields.ended() {
+        Some(alone(command))
     } else {
-        alone(Command::Bad)
+        None
     }
 }
 
 // number X
-pub fn number(line: &[u8], at: usize) -> Said
-    ensures { (xs ys : List Float) → Says (number_line (left_at line.now at)) result xs ys }
+#[tactic(auto, unfolding(line_starts::specs::Lines::number_line))]
+pub fn number<const U: usize, const XI: usize>(mut fields: Fields) -> Option<Said<U, XI>>
+    ensures { result ≡ number_line U XI (left fields.entry) }
 {
-    let x = float_at(line, at);
-    bare(line, x.next, Command::Answer(Given::Number(x.value)))
+    let x = fields.float()?;
+    bare(fields, Command::Answer(Given::Number(x)))
 }
 
 // vector X...
-pub fn vector(line: &[u8], at: usize, first: &mut [f64]) -> Said
-    ensures { (ys : List Float) → Says (vector_line (length first.old) (left_at line.now at)) result first.new ys }
+#[tactic(auto, unfolding(line_starts::specs::Lines::vector_line))]
+pub fn vector<const U: usize, const XI: usize>(fields: Fields) -> Option<Said<U, XI>>
+    ensures { result ≡ vector_line U XI (left fields.entry) }
 {
-    let v = floats_at(line, at, first);
-    if ended(line, v.next) {
-        Said {
-            command: Command::Answer(Given::Vector),
-            first: v.count,
-            second: 0,
-        }
-    } else {
-        alone(Command::Bad)
-    }
+    Some(Said {
+        command: Command::Answer(Given::Vector),
+        first: fields.rest()?,
+        second: ArrayVec::new(),
+    })
 }
 
 // failure CODE
-pub fn failure(line: &[u8], at: usize) -> Said
-    ensures { (xs ys : List Float) → Says (failure_line (left_at line.now at)) result xs ys }
+#[tactic(auto, unfolding(line_starts::specs::Lines::failure_line))]
+pub fn failure<const U: usize, const XI: usize>(mut fields: Fields) -> Option<Said<U, XI>>
+    ensures { result ≡ failure_line U XI (left fields.entry) }
 {
-    let c = code_at(line, at);
-    bare(line, c.next, Command::Answer(Given::Failure(c.value)))
+    let code = fields.code()?;
+    bare(fields, Command::Answer(Given::Failure(code)))
 }
 
-// lend LENGTH_U LENGTH_XI, of at most us and xis places
-pub fn lend(line: &[u8], at: usize, us: usize, xis: usize) -> Said
-    ensures { (xs ys : List Float) → Says (lend_line us xis (left_at line.now at)) result xs ys }
+// lend LENGTH_U LENGTH_XI, of at most U and XI places
+#[tactic(auto, unfolding(line_starts::specs::Lines::lend_line))]
+pub fn lend<const U: usize, const XI: usize>(mut fields: Fields) -> Option<Said<U, XI>>
+    ensures { result ≡ lend_line U XI (left fields.entry) }
 {
-    let u = whole_at(line, at);
-    let xi = whole_at(line, u.next);
-    if (us as u64) < u.value {
-        return alone(Command::Bad);
+    let u = fields.whole()?;
+    let xi = fields.whole()?;
+    if u > U as u64 {
+        return None;
     }
-    if (xis as u64) < xi.value {
-        return alone(Command::Bad);
+    if xi > XI as u64 {
+        return None;
     }
-    bare(line, xi.next, Command::Lend(u.value, xi.value))
+    bare(fields, Command::Lend(u as usize, xi as usize))
 }
