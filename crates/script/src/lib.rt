@@ -1,35 +1,39 @@
 // What a line of a script says: TRANSCRIPT.md, "Calls that start a run" and "Calls that answer".
 #![tactic(auto)]
 
-ghost use Rattle.std.specs.Prelude.{length};
-ghost use Rattle.line_starts.specs.Lines.{Says, meant};
+ghost use Rattle.std.specs.Prelude.{◌≡◌};
+ghost use Rattle.line_starts.specs.Lines.{meant};
 
 use keywords::{Keyword, begins};
 use line_answers::{bare, failure, lend, number, vector};
-use line_starts::alone;
+use line_fields::Fields;
 use line_starts::command::{Command, Given, Said};
-use run_lines::{d_psi, inner, outer, psi};
-use words::word;
+use line_starts::lent;
+use run_lines::{inner, outer, sizes};
 
-// What a line says; the floats go into the lent slices, which have as many places as may be lent.
-pub fn said(line: &[u8], first: &mut [f64], second: &mut [f64]) -> Said
-    ensures { Says (meant (length first.old) (length second.old) line.now) result first.new second.new }
+// What a line says, None for a line of another form; as many places may be lent of u and of xi as U and XI say.
+#[tactic(auto, unfolding(line_starts::specs::Lines::meant, line_starts::specs::Lines::by_words, line_starts::specs::Lines::line_by, line_starts::specs::Lines::psi_line, line_starts::specs::Lines::d_psi_line))]
+pub fn said<const U: usize, const XI: usize>(line: &[u8]) -> Option<Said<U, XI>>
+    ensures { result ≡ meant U XI line.now }
 {
-    let w = word(line, 0);
-    let at = w.len() + 1;
-    let k = begins(w);
-    match k {
-        Keyword::Vector => vector(line, at, first),
-        Keyword::Number => number(line, at),
-        Keyword::Yes => bare(line, at, Command::Answer(Given::Yes)),
-        Keyword::No => bare(line, at, Command::Answer(Given::No)),
-        Keyword::Failure => failure(line, at),
-        Keyword::Show => bare(line, at, Command::Show),
-        Keyword::Lend => lend(line, at, first.len(), second.len()),
-        Keyword::Inner => inner(line, at, first),
-        Keyword::Loop => outer(line, at, first, second),
-        Keyword::Psi => psi(line, at, first, second),
-        Keyword::DPsi => d_psi(line, at, first, second),
-        Keyword::Other => alone(Command::Bad),
+    let mut fields = Fields::of(line);
+    match begins(fields.word()?)? {
+        Keyword::Inner => inner(fields),
+        Keyword::Loop => outer(fields),
+        Keyword::Psi => {
+            let (start, fields) = sizes(fields)?;
+            lent(fields, Command::Psi(start))
+        }
+        Keyword::DPsi => {
+            let (start, fields) = sizes(fields)?;
+            lent(fields, Command::DPsi(start))
+        }
+        Keyword::Number => number(fields),
+        Keyword::Vector => vector(fields),
+        Keyword::Yes => bare(fields, Command::Answer(Given::Yes)),
+        Keyword::No => bare(fields, Command::Answer(Given::No)),
+        Keyword::Failure => failure(fields),
+        Keyword::Lend => lend(fields),
+        Keyword::Show => bare(fields, Command::Show),
     }
 }
