@@ -33,25 +33,7 @@ pub fn phase_of(p: u32) -> Phase
 pub fn phase_number(p: Phase) -> u32
     ensures { result ≡ phase_number p }
 {
-    match p {
-        Phase::Over => 0,
-        Phase::Cost => 1,
-        Phase::Gradient => 2,
-        Phase::Shifted => 3,
-        Phase::Project => 4,
-        Phase::HalfCost => 5,
-        Phase::DoubledProject => 6,
-        Phase::DoubledCost => 7,
-        Phase::Direction => 8,
-        Phase::FirstCost => 9,
-        Phase::FirstGradient => 10,
-        Phase::FirstProject => 11,
-        Phase::TriedCost => 12,
-        Phase::TriedGradient => 13,
-        Phase::TriedProject => 14,
-        Phase::Time => 15,
-        Phase::LastCost => 16,
-    }
+    p as u32
 }
 
 // The end that stands: 0, 1, or any other number.
@@ -68,11 +50,7 @@ pub fn status_of(x: u32) -> ExitStatus
 pub fn status_number(s: ExitStatus) -> u32
     ensures { result ≡ status_number s }
 {
-    match s {
-        ExitStatus::Converged => 0,
-        ExitStatus::NotConvergedIterations => 1,
-        ExitStatus::NotConvergedOutOfTime => 2,
-    }
+    s as u32
 }
 
 // 0 is no, any other number yes.
@@ -85,7 +63,7 @@ pub fn flag_of(x: u32) -> bool
 pub fn flag_number(b: bool) -> u32
     ensures { result ≡ flag_number b }
 {
-    if b { 1 } else { 0 }
+    b as u32
 }
 
 // An AKKT tolerance, where one is set.
@@ -138,7 +116,8 @@ pub fn question_number(q: Question) -> u32
         Question::Cost => 0,
         Question::Gradient => 1,
         Question::Project => 2,
-        Question::Direction(forget) => if forget { 4 } else { 3 },
+        Question::Direction(false) => 3,
+        Question::Direction(true) => 4,
         Question::Time => 5,
     }
 }

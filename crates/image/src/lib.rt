@@ -1,4 +1,6 @@
-// The kinds of a run that lies in lent arrays, as numbers.
+// A run that lies in lent arrays: its kinds as numbers, and where each number lies.
 #![tactic(auto)]
 
 pub mod kinds;
+pub mod places;
+pub mod told;

@@ -2,42 +2,53 @@
 #![tactic(auto)]
 
 ghost use Rattle.std.specs.Prelude.{◌≡◌};
-ghost use Rattle.image.specs.Image.{moved};
+ghost use Rattle.image.specs.Image.{moved, phase_number, question_number};
 
-// On to a phase with a question; 0 is the kind of what is told.
-pub fn ask(phase: u32, question: u32, w: &mut [u32; 6]) -> u32
+use image::kinds::{phase_number, question_number};
+use image::places::{PHASE, TOLD};
+use image::told;
+use panoc_core::panoc_cache::{Phase, Question};
+
+// On to a phase with a question.
+pub fn ask(phase: Phase, question: Question, w: &mut [u32; 6]) -> u32
     ensures kind { result ≡ 0 }
-    ensures told { w.new ≡ moved phase question w.old }
+    ensures told { w.new ≡ moved (phase_number phase) (question_number question) w.old }
 {
-    move_to(phase, question, w);
-    0
+    move_to(phase, question_number(question), w);
+    told::ASKED
 }
 
-// The run ends, refused by a number; 2 is the kind of what is told.
+// The run ends with a status, by its number.
+pub fn end(status: u32, w: &mut [u32; 6]) -> u32
+    ensures kind { result ≡ 1 }
+    ensures told { w.new ≡ moved 0 status w.old }
+{
+    move_to(Phase::Over, status, w);
+    told::ENDED
+}
+
+// The run ends, refused by a number.
 pub fn stop(number: u32, w: &mut [u32; 6]) -> u32
     ensures kind { result ≡ 2 }
     ensures told { w.new ≡ moved 0 number w.old }
 {
-    move_to(0, number, w);
-    2
+    move_to(Phase::Over, number, w);
+    told::REFUSED
 }
 
-// The host reports a failure; 3 is the kind of what is told.
+// The host reports a failure.
 pub fn fail(code: u32, w: &mut [u32; 6]) -> u32
     ensures kind { result ≡ 3 }
     ensures told { w.new ≡ moved 0 code w.old }
 {
-    move_to(0, code, w);
-    3
+    move_to(Phase::Over, code, w);
+    told::FAILED
 }
 
 // Another phase, and the number that is told.
-pub fn move_to(phase: u32, told: u32, w: &mut [u32; 6])
-    ensures { w.new ≡ moved phase told w.old }
+fn move_to(phase: Phase, told: u32, w: &mut [u32; 6])
+    ensures { w.new ≡ moved (phase_number phase) told w.old }
 {
-    let status = w[2];
-    let forget = w[3];
-    let limited = w[4];
-    let akkt = w[5];
-    *w = [phase, told, status, forget, limited, akkt];
+    w[PHASE] = phase_number(phase);
+    w[TOLD] = told;
 }

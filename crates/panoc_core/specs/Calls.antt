@@ -1,5 +1,5 @@
 -- What the public calls give, in terms of the process that is left of a run. Definitions only.
-use Rattle.std.specs.Prelude.{ℕ, suc, ◌≡◌, cond, ◌&&◌, List, [], eqb, Float, length}
+use Rattle.std.specs.Prelude.{ℕ, suc, ◌≡◌, cond, ◌&&◌, List, eqb, Float, length}
 use Rattle.std.proofs.Math.Option.{Option, none, some}
 use Rattle.std.specs.Float.{binary64}
 use Rattle.model.specs.Process.{ask, score, begin, stop, Solve}

@@ -23,7 +23,6 @@ use Rattle.model.specs.Inner as I
 use Rattle.model.specs.Refusals.{accept, replied, go_on, as_number, as_vector, remains, lent_after, lent_at, plan_of}
 use Rattle.panoc_core.specs.declared.panoc_cache.Phase.{Phase}
 use Rattle.panoc_core.specs.declared.panoc_cache.Phase.TheVariants as P
-use Rattle.panoc_core.specs.declared.panoc_cache.Question.{Question}
 use Rattle.panoc_core.specs.declared.panoc_cache.Question.TheVariants as Q
 use Rattle.panoc_core.specs.declared.panoc_cache.ExitStatus.{ExitStatus}
 use Rattle.panoc_core.specs.declared.panoc_cache.ExitStatus.TheVariants as E

@@ -16,7 +16,6 @@ use Rattle.panoc_core.specs.declared.panoc_cache.Reply.{Reply}
 use Rattle.panoc_core.specs.declared.panoc_cache.Reply.TheVariants.{Number, Vector, Yes, No, Failure}
 use Rattle.panoc_core.specs.declared.refusals.Wanted.{Wanted}
 use Rattle.panoc_core.specs.declared.refusals.Wanted.TheVariants.{Nothing, Decision}
-use Rattle.panoc_core.specs.declared.refusals.Wanted.TheVariants as Wanted
 use Rattle.panoc_core.specs.declared.panoc_cache.Outcome.{Outcome}
 use Rattle.panoc_core.specs.declared.panoc_cache.Outcome.TheVariants.{Asked, Ended, Refused, Failed}
 

@@ -14,14 +14,11 @@ pub fn both_finite(cost: f64, gradient: &[f64; 64], n: usize) -> bool
     requires { n ≤ 64 }
     ensures { result ≡ (finite cost && all_finite (firsts n gradient.now)) }
 {
-    if numeric::is_finite(cost) {
-        matrix_operations::is_finite(gradient, n)
-    } else {
-        false
-    }
+    numeric::is_finite(cost) && matrix_operations::is_finite(gradient, n)
 }
 
 // γ = 0.95 / max(L, 1e-10)
+#[tactic(auto, using(crate::specs::Laws::gamma_is))]
 pub fn gamma_of(lipschitz: f64) -> f64
     ensures { result ≡ gamma_of binary64 lipschitz }
 {
@@ -29,6 +26,7 @@ pub fn gamma_of(lipschitz: f64) -> f64
 }
 
 // σ = (1 - 0.95) / (4 × γ)
+#[tactic(auto, using(crate::specs::Laws::sigma_is))]
 pub fn sigma_of(gamma: f64) -> f64
     ensures { result ≡ sigma_of binary64 gamma }
 {
@@ -36,6 +34,7 @@ pub fn sigma_of(gamma: f64) -> f64
 }
 
 // cost + 1e-6 × |cost| - (gradient · residual) + (0.95 / (2 × γ)) × norm × norm
+#[tactic(auto, using(crate::specs::Laws::ceiling_is))]
 pub fn lipschitz_check_rhs(cost: f64, gamma: f64, norm: f64, product: f64) -> f64
     ensures { Ceiling cost gamma norm product result }
 {
@@ -43,17 +42,15 @@ pub fn lipschitz_check_rhs(cost: f64, gamma: f64, norm: f64, product: f64) -> f6
 }
 
 // Whether L is to be doubled: the half step's cost exceeds its ceiling, and L is below 1e9.
+#[tactic(auto, using(crate::specs::Laws::exceeds_is))]
 pub fn exceeds(ceiling: f64, lipschitz: f64, cost: f64) -> bool
     ensures { result ≡ (lt ceiling cost && lt lipschitz (max_lipschitz_constant binary64)) }
 {
-    if ceiling < cost {
-        lipschitz < 1e9
-    } else {
-        false
-    }
+    ceiling < cost && lipschitz < 1e9
 }
 
 // cost - 0.5 × γ × |gradient|² + 0.5 × d² / γ, d the distance from gradient step to half step
+#[tactic(auto, using(crate::specs::Laws::envelope_is))]
 pub fn envelope(cost: f64, gamma: f64, gradient_squared: f64, distance_squared: f64) -> f64
     ensures { Envelope cost gamma gradient_squared distance_squared result }
 {

@@ -7,14 +7,14 @@ ghost use Rattle.model.specs.Inner.{passes};
 ghost use Rattle.panoc_core.specs.Board.{Board, stepped, at_phase, with_status, best_at, set_of, state_at, set_gradient, set_previous, set_fpr};
 
 // The AKKT tolerance, which may be missing in an inner solve used alone.
-#[derive(Clone, Copy)]
+#[derive(Clone, Copy, Debug, PartialEq)]
 pub enum AkktTolerance {
     Missing,
     Set(f64),
 }
 
 // What a start is given: n, M, whether TIME is asked, the tolerances.
-#[derive(Clone, Copy)]
+#[derive(Clone, Copy, Debug, PartialEq)]
 pub struct Settings {
     pub n: usize,
     pub max_iter: usize,
@@ -24,7 +24,7 @@ pub struct Settings {
 }
 
 // The three ends.
-#[derive(Clone, Copy)]
+#[derive(Clone, Copy, Debug, PartialEq, Eq)]
 pub enum ExitStatus {
     Converged,
     NotConvergedIterations,
@@ -32,12 +32,12 @@ pub enum ExitStatus {
 }
 
 // A count of inner iterations; an outer count is another type.
-#[derive(Clone, Copy)]
+#[derive(Clone, Copy, Debug, PartialEq, Eq)]
 pub struct InnerIterations(pub usize);
 
 // The running numbers of a solve. rhs_ls is what the next test holds a value to: the half step's cost, or a candidate's envelope; norm_h
 // is the norm of the shift of the Lipschitz estimate.
-#[derive(Clone, Copy)]
+#[derive(Clone, Copy, Debug, PartialEq)]
 pub struct Numbers {
     pub cost_value: f64,
     pub lipschitz_constant: f64,
@@ -52,7 +52,7 @@ pub struct Numbers {
 
 // Which question a run waits for: those of the start, of a step's half step, of the doubling, DIRECTION, of the first step's move, of a
 // candidate, TIME, the last COST. Over: it has ended.
-#[derive(Clone, Copy)]
+#[derive(Clone, Copy, Debug, PartialEq, Eq)]
 pub enum Phase {
     Over,
     Cost,
@@ -74,7 +74,7 @@ pub enum Phase {
 }
 
 // A question of the inner solve. DIRECTION says whether to forget.
-#[derive(Clone, Copy)]
+#[derive(Clone, Copy, Debug, PartialEq, Eq)]
 pub enum Question {
     Cost,
     Gradient,
@@ -84,7 +84,7 @@ pub enum Question {
 }
 
 // An answer: the vector stands beside it, in a lent slice.
-#[derive(Clone, Copy)]
+#[derive(Clone, Copy, Debug, PartialEq)]
 pub enum Reply {
     Number(f64),
     Vector,
@@ -94,7 +94,7 @@ pub enum Reply {
 }
 
 // What is handed back with the plan.
-#[derive(Clone, Copy)]
+#[derive(Clone, Copy, Debug, PartialEq)]
 pub struct SolverStatus {
     pub exit_status: ExitStatus,
     pub iterations: InnerIterations,
@@ -103,7 +103,7 @@ pub struct SolverStatus {
 }
 
 // What a call gives: the next question, the end, a refusal by its number, or the host's failure by its code.
-#[derive(Clone, Copy)]
+#[derive(Clone, Copy, Debug, PartialEq)]
 pub enum Outcome {
     Asked(Question),
     Ended(SolverStatus),
@@ -113,7 +113,7 @@ pub enum Outcome {
 
 // The small part of a run. left: how many steps may still begin; status: the end that stands for the present step; rounds: how many
 // doublings or candidates may follow; forget: what DIRECTION says.
-#[derive(Clone, Copy)]
+#[derive(Clone, Copy, Debug, PartialEq)]
 pub struct Solve {
     pub phase: Phase,
     pub set: Settings,
@@ -126,7 +126,7 @@ pub struct Solve {
 }
 
 // What a call in place gives: the vectors are where they were lent.
-#[derive(Clone, Copy)]
+#[derive(Clone, Copy, Debug, PartialEq)]
 pub struct Stepped {
     pub outcome: Outcome,
     pub solve: Solve,
@@ -157,10 +157,9 @@ pub struct Answered {
 pub fn stops(s: Solve, number: u32) -> Stepped
     ensures { result ≡ stepped (Outcome.Refused number) Phase.Over s }
 {
-    let solve = at_phase(s, Phase::Over);
     Stepped {
         outcome: Outcome::Refused(number),
-        solve,
+        solve: at_phase(s, Phase::Over),
     }
 }
 
@@ -168,20 +167,7 @@ pub fn stops(s: Solve, number: u32) -> Stepped
 pub fn at_phase(s: Solve, phase: Phase) -> Solve
     ensures { result ≡ at_phase phase s }
 {
-    let set = s.set;
-    let numbers = s.numbers;
-    let iterations = s.iterations;
-    let status = s.status;
-    Solve {
-        phase,
-        set,
-        numbers,
-        left: s.left,
-        iterations,
-        status,
-        rounds: s.rounds,
-        forget: s.forget,
-    }
+    Solve { phase, ..s }
 }
 
 // Keeps the previous gradient if at least one step is done.
@@ -194,13 +180,13 @@ pub fn cache_previous_gradient(
     requires { n ≤ 64 }
     ensures { firsts n previous.new ≡ cond (eqb done 0) (firsts n previous.old) (firsts n gradient.now) }
 {
-    if done == 0 {
-        return;
+    if done != 0 {
+        vector_copies::copy_into(gradient, previous, n);
     }
-    vector_copies::copy_into(gradient, previous, n);
 }
 
 // Scores the half step, of this norm, and gives the least norm: it is kept only if its norm is strictly less than the least so far.
+#[tactic(auto, using(crate::specs::Laws::keep_less, crate::specs::Laws::keep_not))]
 pub fn cache_best_half_step(
     norm: f64,
     least: f64,

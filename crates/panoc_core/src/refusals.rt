@@ -7,7 +7,7 @@ use crate::panoc_cache::Reply;
 
 // What a run waits for: nothing once it has ended; a number; a vector of so many places; a direction, for which no failure is taken; a
 // yes or no.
-#[derive(Clone, Copy)]
+#[derive(Clone, Copy, Debug, PartialEq, Eq)]
 pub enum Wanted {
     Nothing,
     Number,
@@ -27,43 +27,21 @@ fn by_length(right: bool) -> u32
 fn by_places(vs: usize, n: usize, fits: bool) -> u32
     ensures { result ≡ cond (eqb vs n && fits) 0 8 }
 {
-    if vs == n { by_length(fits) } else { 8 }
+    by_length(vs == n && fits)
 }
 
 // The number by which an answer is refused, 0 for none. vs is the length of the answered slice; fits says that each lent place has
 // the length asked.
+#[tactic(auto, unfolding(model::specs::Refusals::answer_refusal, model::specs::Refusals::fits_kind, model::specs::Refusals::fits_length, model::specs::Refusals::fits_places, model::specs::Refusals::given, model::specs::Refusals::as_number, model::specs::Refusals::as_vector, model::specs::Refusals::as_decision, model::specs::Refusals::may_fail,))]
 pub fn refusal(wanted: Wanted, a: Reply, vs: usize, fits: bool) -> u32
     ensures { result ≡ answer_refusal (kind_of wanted) (reply_of a) vs fits }
 {
-    match wanted {
-        Wanted::Nothing => 6,
-        Wanted::Number => match a {
-            Reply::Number(_) => by_length(fits),
-            Reply::Failure(_) => by_length(fits),
-            Reply::Vector => 7,
-            Reply::Yes => 7,
-            Reply::No => 7,
-        },
-        Wanted::Vector(n) => match a {
-            Reply::Vector => by_places(vs, n, fits),
-            Reply::Failure(_) => by_length(fits),
-            Reply::Number(_) => 7,
-            Reply::Yes => 7,
-            Reply::No => 7,
-        },
-        Wanted::Direction(n) => match a {
-            Reply::Vector => by_places(vs, n, fits),
-            Reply::Number(_) => 7,
-            Reply::Yes => 7,
-            Reply::No => 7,
-            Reply::Failure(_) => 7,
-        },
-        Wanted::Decision => match a {
-            Reply::Yes => by_length(fits),
-            Reply::No => by_length(fits),
-            Reply::Number(_) => 7,
-            Reply::Vector => 7,
-            Reply::Failure(_) => 7,
-        },
+    match (wanted, a) {
+        (Wanted::Nothing, _) => 6,
+        (Wanted::Vector(n) | Wanted::Direction(n), Reply::Vector) => by_places(vs, n, fits),
+        (Wanted::Number, Reply::Number(_) | Reply::Failure(_))
+        | (Wanted::Vector(_), Reply::Failure(_))
+        | (Wanted::Decision, Reply::Yes | Reply::No) => by_length(fits),
+        _ => 7,
     }
 }

@@ -1,5 +1,7 @@
-use Rattle.image_keep.proofs.Laws.{kept_as}
+use Rattle.image.specs.Rounds.{phase_round, status_round, flag_round}
+use Rattle.image.specs.Spelled.{six}
 use Rattle.image_keep.proofs.keep.Goals as goal
 
 pub returns : goal.returns
-returns c = kept_as c.args.s c.args.w.now c.args.k.now c.args.f.now _ _ _ _ c.phase_number-phase.ensures c.status_number-status.ensures c.flag_number-forget.ensures c.keep_numbers.ensures c.requires
+returns c =
+    rw (six c.args.w.now c.told-w, six c.args.k.now c.told-k, c.keep_numbers.ensures, c.phase_number.ensures, c.status_number.ensures, c.flag_number.ensures, phase_round c.args.s.phase, status_round c.args.s.status, flag_round c.args.s.forget, c.requires)

@@ -1,5 +1,5 @@
-use Rattle.std.proofs.Common.{refl}
+use Rattle.image.specs.Spelled.{six, thirteen}
 use Rattle.image_puts.proofs.note_end.Goals as goal
 
 pub returns : goal.returns
-returns c = (refl, rw c.numbers_of-x.ensures)
+returns c = (rw (six c.args.k.now c.told-k), rw (thirteen c.args.f.now c.told-f))
