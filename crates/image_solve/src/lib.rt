@@ -8,6 +8,11 @@ use image::kinds::{
     akkt_of, akkt_set, akkt_value, flag_number, flag_of, phase_of, question_number, question_of,
     status_number, status_of,
 };
+use image::places::{
+    AKKT, DONE, END_COST, END_NORM, END_STEPS, FORGET, HAS_AKKT, LEFT, LIMITED, MAX_ITER, N, PHASE,
+    ROUNDS, STATUS, TOLD, TOLERANCE,
+};
+use image::told;
 use image_keep::keep;
 use image_puts::{note, note_end, numbers_of};
 use panoc_core::panoc_cache::{InnerIterations, Outcome, Settings, Solve, SolverStatus, Stepped};
@@ -23,14 +28,12 @@ pub fn settings_given(
 ) -> Settings
     ensures { result ≡ settings_given n max_iter limited tolerance has_akkt akkt }
 {
-    let limited = flag_of(limited);
-    let akkt_tolerance = akkt_of(has_akkt, akkt);
     Settings {
         n,
         max_iter,
-        limited,
+        limited: flag_of(limited),
         tolerance,
-        akkt_tolerance,
+        akkt_tolerance: akkt_of(has_akkt, akkt),
     }
 }
 
@@ -38,21 +41,22 @@ pub fn settings_given(
 pub fn solve_of(w: &[u32; 6], k: &[usize; 6], f: &[f64; 13]) -> Solve
     ensures { result ≡ solve_of w.now k.now f.now }
 {
-    let phase = phase_of(w[0]);
-    let set = settings_given(k[3], k[4], w[4], f[9], w[5], f[10]);
-    let numbers = numbers_of(f);
-    let iterations = InnerIterations(k[1]);
-    let status = status_of(w[2]);
-    let forget = flag_of(w[3]);
     Solve {
-        phase,
-        set,
-        numbers,
-        left: k[0],
-        iterations,
-        status,
-        rounds: k[2],
-        forget,
+        phase: phase_of(w[PHASE]),
+        set: settings_given(
+            k[N],
+            k[MAX_ITER],
+            w[LIMITED],
+            f[TOLERANCE],
+            w[HAS_AKKT],
+            f[AKKT],
+        ),
+        numbers: numbers_of(f),
+        left: k[LEFT],
+        iterations: InnerIterations(k[DONE]),
+        status: status_of(w[STATUS]),
+        rounds: k[ROUNDS],
+        forget: flag_of(w[FORGET]),
     }
 }
 
@@ -81,17 +85,13 @@ pub fn begin(
 pub fn keep_settings(set: Settings, w: &mut [u32; 6], k: &mut [usize; 6], f: &mut [f64; 13])
     ensures { settings_of w.new k.new f.new ≡ set }
 {
-    let akkt = set.akkt_tolerance;
-    let limited = flag_number(set.limited);
-    let has = akkt_set(akkt);
-    let value = akkt_value(akkt);
     begin(
         set.n,
         set.max_iter,
-        limited,
+        flag_number(set.limited),
         set.tolerance,
-        has,
-        value,
+        akkt_set(set.akkt_tolerance),
+        akkt_value(set.akkt_tolerance),
         w,
         k,
         f,
@@ -102,8 +102,7 @@ pub fn keep_settings(set: Settings, w: &mut [u32; 6], k: &mut [usize; 6], f: &mu
 pub fn store(s: Solve, w: &mut [u32; 6], k: &mut [usize; 6], f: &mut [f64; 13])
     ensures { solve_of w.new k.new f.new ≡ s }
 {
-    let set = s.set;
-    keep_settings(set, w, k, f);
+    keep_settings(s.set, w, k, f);
     keep(s, w, k, f);
 }
 
@@ -111,22 +110,16 @@ pub fn store(s: Solve, w: &mut [u32; 6], k: &mut [usize; 6], f: &mut [f64; 13])
 pub fn outcome_of(r: u32, w: &[u32; 6], k: &[usize; 6], f: &[f64; 13]) -> Outcome
     ensures { result ≡ outcome_of r w.now k.now f.now }
 {
-    let told = w[1];
     match r {
-        0 => Outcome::Asked(question_of(told)),
-        1 => {
-            let exit_status = status_of(told);
-            let iterations = InnerIterations(k[5]);
-            let status = SolverStatus {
-                exit_status,
-                iterations,
-                norm_fpr: f[11],
-                cost_value: f[12],
-            };
-            Outcome::Ended(status)
-        }
-        2 => Outcome::Refused(told),
-        _ => Outcome::Failed(told),
+        told::ASKED => Outcome::Asked(question_of(w[TOLD])),
+        told::ENDED => Outcome::Ended(SolverStatus {
+            exit_status: status_of(w[TOLD]),
+            iterations: InnerIterations(k[END_STEPS]),
+            norm_fpr: f[END_NORM],
+            cost_value: f[END_COST],
+        }),
+        told::REFUSED => Outcome::Refused(w[TOLD]),
+        _ => Outcome::Failed(w[TOLD]),
     }
 }
 
@@ -134,9 +127,10 @@ pub fn outcome_of(r: u32, w: &[u32; 6], k: &[usize; 6], f: &[f64; 13]) -> Outcom
 pub fn step_of(r: u32, w: &[u32; 6], k: &[usize; 6], f: &[f64; 13]) -> Stepped
     ensures { result ≡ step_of r w.now k.now f.now }
 {
-    let outcome = outcome_of(r, w, k, f);
-    let solve = solve_of(w, k, f);
-    Stepped { outcome, solve }
+    Stepped {
+        outcome: outcome_of(r, w, k, f),
+        solve: solve_of(w, k, f),
+    }
 }
 
 // What a call has told, into the lent numbers; its kind is the result.
@@ -146,22 +140,20 @@ pub fn tell(o: Outcome, w: &mut [u32; 6], k: &mut [usize; 6], f: &mut [f64; 13])
     match o {
         Outcome::Asked(q) => {
             note(question_number(q), w);
-            0
+            told::ASKED
         }
         Outcome::Ended(end) => {
-            let status = end.exit_status;
-            note(status_number(status), w);
-            let iterations = end.iterations;
-            note_end(iterations.0, end.norm_fpr, end.cost_value, k, f);
-            1
+            note(status_number(end.exit_status), w);
+            note_end(end.iterations.0, end.norm_fpr, end.cost_value, k, f);
+            told::ENDED
         }
         Outcome::Refused(number) => {
             note(number, w);
-            2
+            told::REFUSED
         }
         Outcome::Failed(code) => {
             note(code, w);
-            3
+            told::FAILED
         }
     }
 }
@@ -178,5 +170,5 @@ pub fn refuse(waits: bool, w: &mut [u32; 6]) -> u32
     ensures { (w.new ≡ noted (cond waits 7 6) w.old) × (result ≡ 2) }
 {
     note(strange(waits), w);
-    2
+    told::REFUSED
 }
