@@ -2,26 +2,27 @@
 #![tactic(auto)]
 
 ghost use Rattle.std.specs.Prelude.{◌≡◌};
-ghost use Rattle.image.specs.Image.{stood, forgotten, counted_steps, counted_rounds, cost_put, gammas_put, norms_put, search_put, norm_h_put, numbers_of, noted, noted_count, noted_end};
+ghost use Rattle.image.specs.Image.{flag_number, status_number, stood, forgotten, counted_steps, counted_rounds, cost_put, gammas_put, norms_put, search_put, norm_h_put, numbers_of, noted, noted_count, noted_end};
 
+use image::kinds::{flag_number, status_number};
 use image::places::{
     COST, DONE, END_COST, END_NORM, END_STEPS, FORGET, GAMMA, LEAST, LEFT, LIPSCHITZ, NORM, NORM_H,
     RHS, ROUNDS, SIGMA, STATUS, TAU, TOLD,
 };
-use panoc_core::panoc_cache::Numbers;
+use panoc_core::panoc_cache::{ExitStatus, Numbers};
 
 // The end that stands for the present step.
-pub fn put_status(status: u32, w: &mut [u32; 6])
-    ensures { w.new ≡ stood status w.old }
+pub fn put_status(status: ExitStatus, w: &mut [u32; 6])
+    ensures { w.new ≡ stood (status_number status) w.old }
 {
-    w[STATUS] = status;
+    w[STATUS] = status_number(status);
 }
 
 // What DIRECTION says.
-pub fn put_forget(forget: u32, w: &mut [u32; 6])
-    ensures { w.new ≡ forgotten forget w.old }
+pub fn put_forget(forget: bool, w: &mut [u32; 6])
+    ensures { w.new ≡ forgotten (flag_number forget) w.old }
 {
-    w[FORGET] = forget;
+    w[FORGET] = flag_number(forget);
 }
 
 // How many steps may still begin, and how many are done.

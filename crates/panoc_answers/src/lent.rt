@@ -8,7 +8,8 @@ ghost use Rattle.panoc_core.specs.Board.{Board, Takes, wanted_of, wants_vector, 
 ghost use Rattle.image.specs.Image.{solve_of, step_of};
 
 use image::kinds::phase_of;
-use image_moves::{fail, stop};
+use image::places::PHASE;
+use image_moves::fail;
 use panoc_core::panoc_cache::{Phase, Reply};
 use panoc_doubling::on_doubled_project;
 use panoc_estimate::{on_gradient, on_shifted};
@@ -38,8 +39,7 @@ pub fn on_vector(
     requires { (wants_vector (wanted_of (solve_of w.old k.old f.old)) ≡ true) × (length v.now ≡ get_or k.old 3 0) }
     ensures { Takes (solve_of w.old k.old f.old) (before u plus gradient previous step half fpr direction best) Reply.Vector v.now (step_of result w.new k.new f.new) (after u plus gradient previous step half fpr direction best) }
 {
-    let phase = phase_of(w[0]);
-    match phase {
+    match phase_of(w[PHASE]) {
         Phase::Gradient => on_gradient(v, w, k, f, u, gradient),
         Phase::Shifted => on_shifted(v, w, k, f, u, gradient, step),
         Phase::Project => on_project(v, w, k, f, u, gradient, previous, half, fpr, best),
@@ -51,14 +51,7 @@ pub fn on_vector(
         Phase::TriedProject => on_tried_project(
             v, w, k, f, u, plus, gradient, previous, step, half, fpr, direction, best,
         ),
-        Phase::Cost => stop(7, w),
-        Phase::HalfCost => stop(7, w),
-        Phase::DoubledCost => stop(7, w),
-        Phase::FirstCost => stop(7, w),
-        Phase::TriedCost => stop(7, w),
-        Phase::Time => stop(7, w),
-        Phase::LastCost => stop(7, w),
-        Phase::Over => stop(7, w),
+        _ => unreachable!(),
     }
 }
 

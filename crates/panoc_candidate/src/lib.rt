@@ -11,6 +11,7 @@ ghost use Rattle.model.specs.Inner as I;
 ghost use Rattle.panoc_core.specs.Board.{Board, Sound, Comes, set_of, end_of, next_at, iterate_at, six};
 ghost use Rattle.image.specs.Image.{solve_of, step_of};
 
+use image::places::N;
 use panoc_steps::onward;
 
 // The candidate is taken: it becomes u, and its residual, of this norm squared and product with the gradient, is stored.
@@ -31,7 +32,7 @@ pub fn take_candidate(
     requires { (Sound (solve_of w.old k.old f.old)) × (norm_squared ≡ squares binary64 (minus binary64 (firsts (get_or k.old 3 0) plus.now) (firsts (get_or k.old 3 0) half.now))) × (product ≡ dot binary64 (firsts (get_or k.old 3 0) gradient.now) (minus binary64 (firsts (get_or k.old 3 0) plus.now) (firsts (get_or k.old 3 0) half.now))) }
     ensures { (b : Board) → Comes (solve_of w.old k.old f.old).set (I.onward binary64 (set_of (solve_of w.old k.old f.old)) (end_of (solve_of w.old k.old f.old)) (next_at (solve_of w.old k.old f.old)) (with_u (firsts (get_or k.old 3 0) plus.now) (iterate_at (solve_of w.old k.old f.old) (six u.old gradient.now previous.old half.now fpr.old best.old b)))) (step_of result w.new k.new f.new) (six u.new gradient.now previous.new half.now fpr.new best.new b) }
 {
-    adopted_sums::adopt_into(plus, half, u, fpr, k[3]);
+    adopted_sums::adopt_into(plus, half, u, fpr, k[N]);
     let norm = numeric::sqrt(norm_squared);
     onward(
         norm, product, w, k, f, u, gradient, previous, half, fpr, best,

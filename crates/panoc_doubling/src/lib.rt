@@ -5,11 +5,11 @@ ghost use Rattle.std.specs.Prelude.{◌≡◌, [], length, get_or};
 ghost use Rattle.panoc_core.specs.Board.{Board, Sound, Takes, set_u, set_gradient, set_step, set_half, set_fpr};
 ghost use Rattle.image.specs.Image.{phase_of, solve_of, step_of};
 
-use image::kinds::flag_number;
+use image::places::{COST, DONE, GAMMA, LEAST, N, TAU};
 use image_moves::{ask, stop};
 use image_puts::{put_forget, put_norms, put_rounds, put_search};
 use panoc_core::lipschitz_estimator::lipschitz_check_rhs;
-use panoc_core::panoc_cache::{Phase, Reply};
+use panoc_core::panoc_cache::{Phase, Question, Reply};
 use panoc_lipschitz::update_lipschitz_constant;
 
 // COST at the half step is x. The start also forgets.
@@ -26,9 +26,8 @@ pub fn on_half_cost(
     ensures { (b : Board) → Takes (solve_of w.old k.old f.old) (set_u u.now (set_gradient gradient.now (set_step step.old b))) (Reply.Number x) [] (step_of result w.new k.new f.new) (set_u u.now (set_gradient gradient.now (set_step step.new b))) }
 {
     if numeric::is_finite(x) {
-        let first = k[1] == 0;
+        put_forget(k[DONE] == 0, w);
         put_rounds(10, k);
-        put_forget(flag_number(first), w);
         update_lipschitz_constant(x, w, k, f, u, gradient, step)
     } else {
         stop(11, w)
@@ -47,7 +46,7 @@ pub fn on_doubled_project(
     ensures { (b : Board) → Takes (solve_of w.old k.now f.now) (set_half half.old b) Reply.Vector v.now (step_of result w.new k.now f.now) (set_half half.new b) }
 {
     vector_copies::take_into(v, half);
-    ask(7, 0, w)
+    ask(Phase::DoubledCost, Question::Cost, w)
 }
 
 // COST while doubling is x.
@@ -66,11 +65,11 @@ pub fn on_doubled_cost(
     ensures { (b : Board) → Takes (solve_of w.old k.old f.old) (set_u u.now (set_gradient gradient.now (set_step step.old (set_half half.now (set_fpr fpr.old b))))) (Reply.Number x) [] (step_of result w.new k.new f.new) (set_u u.now (set_gradient gradient.now (set_step step.new (set_half half.now (set_fpr fpr.new b))))) }
 {
     if numeric::is_finite(x) {
-        let sums = residual_sums::residual_into(u, half, gradient, fpr, k[3]);
-        let rhs = lipschitz_check_rhs(f[0], f[2], sums.norm, sums.product);
-        put_norms(sums.norm, f[5], f);
-        put_search(f[6], rhs, f);
-        put_forget(1, w);
+        let sums = residual_sums::residual_into(u, half, gradient, fpr, k[N]);
+        let rhs = lipschitz_check_rhs(f[COST], f[GAMMA], sums.norm, sums.product);
+        put_norms(sums.norm, f[LEAST], f);
+        put_search(f[TAU], rhs, f);
+        put_forget(true, w);
         update_lipschitz_constant(x, w, k, f, u, gradient, step)
     } else {
         stop(12, w)

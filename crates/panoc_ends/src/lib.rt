@@ -9,18 +9,22 @@ ghost use Rattle.panoc_core.specs.Values.{exit_status_of};
 ghost use Rattle.panoc_core.specs.Board.{Board, Sound, Takes};
 ghost use Rattle.image.specs.Image.{phase_of, status_of, solve_of, step_of};
 
-use image_moves::{move_to, stop};
+use image::places::{DONE, LEAST, STATUS};
+use image_moves::{end, stop};
 use image_puts::note_end;
-use panoc_core::panoc_cache::{Phase, Reply};
+use panoc_core::panoc_cache::{ExitStatus, Phase, Reply};
 
-// The number of the end that stands for a step after which left more may begin.
-pub fn standing(left: usize, in_time: bool) -> u32
-    ensures { (s : S.Settings) → status_of result ≡ exit_status_of (I.standing binary64 s left in_time) }
+// The end that stands for a step after which left more may begin.
+pub fn standing(left: usize, in_time: bool) -> ExitStatus
+    ensures { (s : S.Settings) → result ≡ exit_status_of (I.standing binary64 s left in_time) }
 {
     if left == 0 {
-        return 1;
+        ExitStatus::NotConvergedIterations
+    } else if in_time {
+        ExitStatus::Converged
+    } else {
+        ExitStatus::NotConvergedOutOfTime
     }
-    if in_time { 0 } else { 2 }
 }
 
 // The last COST is x; the plan stays in the best half step.
@@ -29,9 +33,8 @@ pub fn on_last_cost(x: f64, w: &mut [u32; 6], k: &mut [usize; 6], f: &mut [f64; 
     ensures { (b : Board) → Takes (solve_of w.old k.old f.old) b (Reply.Number x) [] (step_of result w.new k.new f.new) b }
 {
     if numeric::is_finite(x) {
-        note_end(k[1], f[5], x, k, f);
-        move_to(0, w[2], w);
-        1
+        note_end(k[DONE], f[LEAST], x, k, f);
+        end(w[STATUS], w)
     } else {
         stop(16, w)
     }

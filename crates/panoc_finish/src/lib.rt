@@ -3,7 +3,7 @@
 
 ghost use Rattle.std.specs.Prelude.{◌≡◌, ◌≤◌, Float, get_or};
 ghost use Rattle.std.specs.Float.{binary64};
-ghost use Rattle.ieee.specs.Sums as N;
+ghost use Rattle.ieee.specs.Sums as Sums;
 ghost use Rattle.matrix_operations.specs.Firsts.{firsts};
 ghost use Rattle.model.specs.Vectors.{minus};
 ghost use Rattle.model.specs.Inner as I;
@@ -11,9 +11,10 @@ ghost use Rattle.panoc_core.specs.Laws.{with_norms};
 ghost use Rattle.panoc_core.specs.Board.{Board, Sound, Finishes, set_of, state_at, set_u, set_gradient, set_previous, set_half, set_fpr, set_best};
 ghost use Rattle.image.specs.Image.{solve_of, step_of};
 
+use image::places::{AKKT, GAMMA, HAS_AKKT, LEAST, N, NORM, TOLERANCE};
 use image_moves::{ask, stop};
 use image_puts::put_norms;
-use panoc_core::panoc_cache::cache_best_half_step;
+use panoc_core::panoc_cache::{Phase, Question, cache_best_half_step};
 
 // step.
 pub fn finish(
@@ -25,14 +26,14 @@ pub fn finish(
     half: &[f64; 64],
     best: &mut [f64; 64],
 ) -> u32
-    requires { (Sound (solve_of w.old k.now f.old)) × (norm ≡ N.norm binary64 (minus binary64 (firsts (get_or k.now 3 0) u.now) (firsts (get_or k.now 3 0) half.now))) }
+    requires { (Sound (solve_of w.old k.now f.old)) × (norm ≡ Sums.norm binary64 (minus binary64 (firsts (get_or k.now 3 0) u.now) (firsts (get_or k.now 3 0) half.now))) }
     ensures { (b : Board) → Finishes (solve_of w.old k.now f.old) (set_u u.now (set_half half.now (set_best best.old b))) (step_of result w.new k.now f.new) (set_u u.now (set_half half.now (set_best best.new b))) }
 {
-    let n = k[3];
-    let least = cache_best_half_step(norm, f[5], half, best, n);
-    put_norms(f[4], least, f);
+    let n = k[N];
+    let least = cache_best_half_step(norm, f[LEAST], half, best, n);
+    put_norms(f[NORM], least, f);
     if matrix_operations::is_finite(u, n) {
-        ask(16, 0, w)
+        ask(Phase::LastCost, Question::Cost, w)
     } else {
         stop(15, w)
     }
@@ -51,14 +52,7 @@ pub fn exit_condition(
     requires { get_or k.now 3 0 ≤ 64 }
     ensures { (y : Float) (b : Board) → result ≡ I.passes binary64 (set_of (solve_of w.now k.now f.now)) (state_at (with_norms norm y (solve_of w.now k.now f.now)) (set_gradient gradient.now (set_previous previous.now (set_fpr fpr.now b)))) }
 {
-    let n = k[3];
-    if norm < f[9] {
-        if w[5] == 0 {
-            return true;
-        }
-        let x = akkt_sums::akkt_norm(f[2], fpr, gradient, previous, n);
-        x < f[10]
-    } else {
-        false
-    }
+    norm < f[TOLERANCE]
+        && (w[HAS_AKKT] == 0
+            || akkt_sums::akkt_norm(f[GAMMA], fpr, gradient, previous, k[N]) < f[AKKT])
 }

@@ -34,8 +34,7 @@ pub fn answer_in_place(
         let r = take(
             s, a, v, u, plus, gradient, previous, step, half, fpr, direction, best,
         );
-        let outcome = r.outcome;
-        hand_out(outcome, best, plan);
+        hand_out(r.outcome, best, plan);
         r
     } else {
         Stepped {

@@ -5,8 +5,10 @@ ghost use Rattle.std.specs.Prelude.{get_or};
 ghost use Rattle.panoc_core.specs.Board.{Board, Sound, Residual, Laps, six};
 ghost use Rattle.image.specs.Image.{solve_of, step_of};
 
+use image::places::{DONE, LEFT, LIMITED};
 use image_moves::ask;
 use image_puts::{put_status, put_steps};
+use panoc_core::panoc_cache::{ExitStatus, Phase, Question};
 use panoc_ends::standing;
 use panoc_finish::finish;
 use panoc_step::step;
@@ -28,15 +30,15 @@ pub fn next_step(
     requires { (Sound (solve_of w.old k.old f.old)) × (Residual (get_or k.old 3 0) u.now half.now gradient.now fpr.now norm product) }
     ensures { (b : Board) → Laps (solve_of w.old k.old f.old) (six u.now gradient.now previous.old half.now fpr.now best.old b) (step_of result w.new k.new f.new) (six u.now gradient.now previous.new half.now fpr.now best.new b) }
 {
-    let left = k[0];
+    let left = k[LEFT];
     if left == 0 {
-        put_status(1, w);
+        put_status(ExitStatus::NotConvergedIterations, w);
         return finish(norm, w, k, f, u, half, best);
     }
-    let done = k[1] + 1;
+    let done = k[DONE] + 1;
     put_steps(left - 1, done, k);
-    if w[4] != 0 {
-        return ask(15, 5, w);
+    if w[LIMITED] != 0 {
+        return ask(Phase::Time, Question::Time, w);
     }
     put_status(standing(left - 1, true), w);
     step(

@@ -8,7 +8,7 @@ ghost use Rattle.panoc_core.specs.Board.{Board, Takes, wanted_of, five};
 ghost use Rattle.image.specs.Image.{solve_of, step_of};
 
 use image::kinds::phase_of;
-use image_moves::stop;
+use image::places::PHASE;
 use panoc_core::panoc_cache::{Phase, Reply};
 use panoc_doubling::{on_doubled_cost, on_half_cost};
 use panoc_ends::on_last_cost;
@@ -31,24 +31,13 @@ pub fn on_number(
     requires { wanted_of (solve_of w.old k.old f.old) ≡ some Kind.number }
     ensures { (b : Board) → Takes (solve_of w.old k.old f.old) (five u.now gradient.now step.old half.now fpr.old b) (Reply.Number x) [] (step_of result w.new k.new f.new) (five u.now gradient.now step.new half.now fpr.new b) }
 {
-    let phase = phase_of(w[0]);
-    match phase {
+    match phase_of(w[PHASE]) {
         Phase::Cost => on_cost(x, w, k, f),
         Phase::HalfCost => on_half_cost(x, w, k, f, u, gradient, step),
         Phase::DoubledCost => on_doubled_cost(x, w, k, f, u, gradient, step, half, fpr),
         Phase::FirstCost => on_first_cost(x, w, k, f),
         Phase::TriedCost => on_tried_cost(x, w, k, f),
         Phase::LastCost => on_last_cost(x, w, k, f),
-        Phase::Gradient => stop(7, w),
-        Phase::Shifted => stop(7, w),
-        Phase::Project => stop(7, w),
-        Phase::DoubledProject => stop(7, w),
-        Phase::Direction => stop(7, w),
-        Phase::FirstGradient => stop(7, w),
-        Phase::FirstProject => stop(7, w),
-        Phase::TriedGradient => stop(7, w),
-        Phase::TriedProject => stop(7, w),
-        Phase::Time => stop(7, w),
-        Phase::Over => stop(7, w),
+        _ => unreachable!(),
     }
 }

@@ -5,8 +5,9 @@ ghost use Rattle.std.specs.Prelude.{◌≡◌, length, get_or};
 ghost use Rattle.panoc_core.specs.Board.{Board, Sound, Takes, six};
 ghost use Rattle.image.specs.Image.{phase_of, solve_of, step_of};
 
+use image::places::{MAX_ITER, N, NORM};
 use image_puts::{put_norms, put_status, put_steps};
-use panoc_core::panoc_cache::{Phase, Reply};
+use panoc_core::panoc_cache::{ExitStatus, Phase, Reply};
 use panoc_step::step;
 
 // PROJECT of the first gradient step gave v: no best half step yet, no step done, the previous gradient zeros; then the first step.
@@ -28,10 +29,10 @@ pub fn on_project(
     vector_copies::take_into(v, half);
     vector_copies::zero_into(previous);
     vector_copies::zero_into(best);
-    let sums = residual_sums::residual_into(u, half, gradient, fpr, k[3]);
-    put_norms(f[4], vector_copies::infinity(), f);
-    put_steps(k[4], 0, k);
-    put_status(0, w);
+    let sums = residual_sums::residual_into(u, half, gradient, fpr, k[N]);
+    put_norms(f[NORM], vector_copies::infinity(), f);
+    put_steps(k[MAX_ITER], 0, k);
+    put_status(ExitStatus::Converged, w);
     step(
         sums.norm,
         sums.product,

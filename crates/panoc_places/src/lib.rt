@@ -10,26 +10,9 @@ use panoc_core::panoc_cache::{Phase, Solve};
 pub fn first_places(s: Solve) -> usize
     ensures { result ≡ first_places s.set.n s.phase }
 {
-    let n = s.set.n;
-    let phase = s.phase;
-    match phase {
-        Phase::Cost => n,
-        Phase::Gradient => n,
-        Phase::Shifted => n,
-        Phase::Project => n,
-        Phase::HalfCost => n,
-        Phase::DoubledProject => n,
-        Phase::DoubledCost => n,
-        Phase::Direction => n,
-        Phase::FirstCost => n,
-        Phase::FirstGradient => n,
-        Phase::FirstProject => n,
-        Phase::TriedCost => n,
-        Phase::TriedGradient => n,
-        Phase::TriedProject => n,
+    match s.phase {
         Phase::Time => 0,
-        Phase::LastCost => n,
-        Phase::Over => n,
+        _ => s.set.n,
     }
 }
 
@@ -37,8 +20,7 @@ pub fn first_places(s: Solve) -> usize
 pub fn second_places(s: Solve) -> usize
     ensures { result ≡ second_places s.set.n s.phase }
 {
-    let phase = s.phase;
-    second_places_at(s.set.n, phase)
+    second_places_at(s.set.n, s.phase)
 }
 
 // The same at a phase.
@@ -46,23 +28,8 @@ pub fn second_places_at(n: usize, phase: Phase) -> usize
     ensures { result ≡ second_places n phase }
 {
     match phase {
-        Phase::Cost => 0,
-        Phase::Gradient => 0,
-        Phase::Shifted => 0,
-        Phase::Project => 0,
-        Phase::HalfCost => 0,
-        Phase::DoubledProject => 0,
-        Phase::DoubledCost => 0,
         Phase::Direction => n,
-        Phase::FirstCost => 0,
-        Phase::FirstGradient => 0,
-        Phase::FirstProject => 0,
-        Phase::TriedCost => 0,
-        Phase::TriedGradient => 0,
-        Phase::TriedProject => 0,
-        Phase::Time => 0,
-        Phase::LastCost => 0,
-        Phase::Over => 0,
+        _ => 0,
     }
 }
 
@@ -80,24 +47,16 @@ pub fn first_point(
     requires { (s.set.n ≤ 64) × (length first.old ≡ first_places s.set.n s.phase) }
     ensures { (b : Board) → first.new ≡ first_at (run_of s (asked u.now plus.now step.now half.now fpr.now best.now b)) s.phase first.old }
 {
-    let phase = s.phase;
-    match phase {
-        Phase::Cost => vector_copies::give(u, first),
-        Phase::Gradient => vector_copies::give(u, first),
-        Phase::Shifted => vector_copies::give(u, first),
-        Phase::Project => vector_copies::give(step, first),
-        Phase::HalfCost => vector_copies::give(half, first),
-        Phase::DoubledProject => vector_copies::give(step, first),
-        Phase::DoubledCost => vector_copies::give(half, first),
+    match s.phase {
+        Phase::Cost | Phase::Gradient | Phase::Shifted | Phase::FirstCost | Phase::FirstGradient =>
+            vector_copies::give(u, first),
+        Phase::Project | Phase::DoubledProject | Phase::FirstProject | Phase::TriedProject => {
+            vector_copies::give(step, first)
+        }
+        Phase::HalfCost | Phase::DoubledCost => vector_copies::give(half, first),
         Phase::Direction => vector_copies::give(fpr, first),
-        Phase::FirstCost => vector_copies::give(u, first),
-        Phase::FirstGradient => vector_copies::give(u, first),
-        Phase::FirstProject => vector_copies::give(step, first),
-        Phase::TriedCost => vector_copies::give(plus, first),
-        Phase::TriedGradient => vector_copies::give(plus, first),
-        Phase::TriedProject => vector_copies::give(step, first),
-        Phase::Time => {}
+        Phase::TriedCost | Phase::TriedGradient => vector_copies::give(plus, first),
         Phase::LastCost => vector_copies::give(best, first),
-        Phase::Over => {}
+        Phase::Time | Phase::Over => {}
     }
 }

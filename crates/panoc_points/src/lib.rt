@@ -30,28 +30,23 @@ pub fn points_in_place<'a>(
 ) -> u32
     ensures { (b : Board) → Points (run_of s (asked u.now plus.now step.now half.now fpr.now best.now b)) first.old first.new second.old second.new result }
 {
-    if is_waiting(s) {
-        if first.len() != first_places(s) {
-            return 8;
-        }
-        if second.len() != second_places(s) {
-            return 8;
-        }
-        first_point(s, first, u, plus, step, half, fpr, best);
-        vector_copies::give(u, second);
-        0
-    } else {
-        6
+    if !is_waiting(s) {
+        return 6;
     }
+    if first.len() != first_places(s) || second.len() != second_places(s) {
+        return 8;
+    }
+    first_point(s, first, u, plus, step, half, fpr, best);
+    vector_copies::give(u, second);
+    0
 }
 
 // The points of the question of a run by value.
 pub fn points(run: Run, first: &mut [f64], second: &mut [f64]) -> u32
     ensures { Points run first.old first.new second.old second.new result }
 {
-    let s = run.solve;
     points_in_place(
-        s,
+        run.solve,
         first,
         second,
         &run.u,

@@ -5,6 +5,7 @@ ghost use Rattle.std.specs.Prelude.{◌≡◌, length, get_or};
 ghost use Rattle.panoc_core.specs.Board.{Board, Sound, Takes, six, nine};
 ghost use Rattle.image.specs.Image.{phase_of, solve_of, step_of};
 
+use image::places::{COST, GAMMA, N, RHS, ROUNDS};
 use panoc_candidate::take_candidate;
 use panoc_core::lipschitz_estimator::envelope;
 use panoc_core::panoc_cache::{Phase, Reply};
@@ -28,7 +29,7 @@ pub fn on_first_project(
     ensures { (b : Board) → Takes (solve_of w.old k.old f.old) (six u.now gradient.now previous.old half.old fpr.old best.old b) Reply.Vector v.now (step_of result w.new k.new f.new) (six u.now gradient.now previous.new half.new fpr.new best.new b) }
 {
     vector_copies::take_into(v, half);
-    let sums = residual_sums::residual_into(u, half, gradient, fpr, k[3]);
+    let sums = residual_sums::residual_into(u, half, gradient, fpr, k[N]);
     onward(
         sums.norm,
         sums.product,
@@ -64,8 +65,13 @@ pub fn on_tried_project(
     ensures { Takes (solve_of w.old k.old f.old) (nine u.old plus.old gradient.now previous.old step.now half.old fpr.old direction.now best.old) Reply.Vector v.now (step_of result w.new k.new f.new) (nine u.new plus.new gradient.now previous.new step.now half.new fpr.new direction.now best.new) }
 {
     let sums = candidate_sums::candidate_sums_into(v, gradient, step, plus, half);
-    let value = envelope(f[0], f[2], sums.gradient_squared, sums.distance_squared);
-    if worse(f[7], value, k[2]) {
+    let value = envelope(
+        f[COST],
+        f[GAMMA],
+        sums.gradient_squared,
+        sums.distance_squared,
+    );
+    if worse(f[RHS], value, k[ROUNDS]) {
         try_again(w, k, f, u, plus, fpr, direction)
     } else {
         take_candidate(

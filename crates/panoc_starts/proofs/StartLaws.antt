@@ -26,38 +26,6 @@ use Rattle.panoc_core.specs.Calls.{Starts}
 use Rattle.panoc_core.specs.Laws.{rest_over}
 use Rattle.panoc_core.specs.Wanted.{begun_rest}
 
-pub akkt_missing : (a : AkktTolerance) → a ≡ A.Missing → true ≡ akkt_right (akkt_of a)
-unfolding akkt_right
-akkt_missing a e = sym (ap (λ (z : AkktTolerance). akkt_right (akkt_of z)) e)
-
-pub akkt_set_lem : (a : AkktTolerance) (t : Float) (c : Bool) → a ≡ A.Set t → c ≡ tolerance_right t → c ≡ akkt_right (akkt_of a)
-unfolding akkt_right
-akkt_set_lem a t c e q = q ∙ sym (ap (λ (z : AkktTolerance). akkt_right (akkt_of z)) e)
-
-module _ (s : Settings) (us : ℕ) where
-  pub refused_sizes : (c : Bool) → c ≡ sizes_right s.n us → c ≡ false → 1 ≡ inner_refusal (settings_of s) us
-  unfolding inner_refusal unless
-  refused_sizes c e q = rw (← e, q)
-
-  module _ (c : Bool) (e : c ≡ sizes_right s.n us) (q : c ≡ true) where
-    pub refused_limit : (d : Bool) → d ≡ limit_right 10000 s.max_iter → d ≡ false → 3 ≡ inner_refusal (settings_of s) us
-    unfolding inner_refusal unless
-    refused_limit d f p = rw (← e, q, ← f, p)
-
-    module _ (d : Bool) (f : d ≡ limit_right 10000 s.max_iter) (p : d ≡ true) where
-      pub refused_tolerance : (g : Bool) → g ≡ tolerance_right s.tolerance → g ≡ false → 4 ≡ inner_refusal (settings_of s) us
-      unfolding inner_refusal unless
-      refused_tolerance g h o = rw (← e, q, ← f, p, ← h, o)
-
-      module _ (g : Bool) (h : g ≡ tolerance_right s.tolerance) (o : g ≡ true) where
-        pub refused_akkt : (k : Bool) → k ≡ akkt_right (akkt_of s.akkt_tolerance) → k ≡ false → 4 ≡ inner_refusal (settings_of s) us
-        unfolding inner_refusal unless
-        refused_akkt k l m = rw (← e, q, ← f, p, ← h, o, ← l, m)
-
-        pub refused_none : (k : Bool) → k ≡ akkt_right (akkt_of s.akkt_tolerance) → k ≡ true → 0 ≡ inner_refusal (settings_of s) us
-        unfolding inner_refusal unless
-        refused_none k l m = rw (← e, q, ← f, p, ← h, o, ← l, m)
-
 -- an accepted start has its sizes
 pub started : (s : Settings) (us : ℕ) → inner_refusal (settings_of s) us ≡ 0 → (s.n ≤ 64) × (us ≡ s.n) × (s.max_iter ≤ 10000)
 unfolding inner_refusal unless sizes_right limit_right

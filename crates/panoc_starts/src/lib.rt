@@ -15,26 +15,25 @@ use start_numbers::{limit_right, tolerance_right};
 use start_sizes::sizes_right;
 
 // The number of the start's refusal, 1, 3 or 4, and 0 for none; us is the length of the lent u.
+#[tactic(auto, unfolding(model::specs::Refusals::inner_refusal, model::specs::Refusals::unless))]
 pub fn start_refusal(set: Settings, us: usize) -> u32
     ensures { result ≡ R.inner_refusal (settings_of set) us }
 {
-    let akkt = set.akkt_tolerance;
-    if sizes_right(set.n, us) {
-        if limit_right(10000, set.max_iter) {
-            if tolerance_right(set.tolerance) {
-                if akkt_right(akkt) { 0 } else { 4 }
-            } else {
-                4
-            }
-        } else {
-            3
-        }
+    if !sizes_right(set.n, us) {
+        return 1;
+    }
+    if !limit_right(10000, set.max_iter) {
+        return 3;
+    }
+    if tolerance_right(set.tolerance) && akkt_right(set.akkt_tolerance) {
+        0
     } else {
-        1
+        4
     }
 }
 
 // The AKKT tolerance may be missing.
+#[tactic(auto, unfolding(model::specs::Refusals::akkt_right))]
 pub fn akkt_right(akkt: AkktTolerance) -> bool
     ensures { result ≡ R.akkt_right (akkt_of akkt) }
 {
@@ -59,13 +58,12 @@ pub fn begin(set: Settings) -> Solve
         rhs_ls: 0.0,
         norm_h: 0.0,
     };
-    let iterations = InnerIterations(0);
     Solve {
         phase: Phase::Cost,
         set,
         numbers,
         left: 0,
-        iterations,
+        iterations: InnerIterations(0),
         status: ExitStatus::Converged,
         rounds: 0,
         forget: true,
@@ -95,11 +93,9 @@ pub fn start(set: Settings, u: &[f64]) -> Answered
 {
     let mut v = vector_copies::zeros();
     let r = start_in_place(set, u, &mut v);
-    let outcome = r.outcome;
-    let solve = r.solve;
     let zeros = vector_copies::zeros();
     let run = Run {
-        solve,
+        solve: r.solve,
         u: v,
         u_plus: zeros,
         gradient_u: zeros,
@@ -110,5 +106,8 @@ pub fn start(set: Settings, u: &[f64]) -> Answered
         direction_lbfgs: zeros,
         best_u_half_step: zeros,
     };
-    Answered { outcome, run }
+    Answered {
+        outcome: r.outcome,
+        run,
+    }
 }

@@ -5,7 +5,9 @@ ghost use Rattle.std.specs.Prelude.{get_or};
 ghost use Rattle.panoc_core.specs.Board.{Board, Sound, Residual, Times, Onward, six};
 ghost use Rattle.image.specs.Image.{solve_of, step_of};
 
+use image::places::{LEFT, N, STATUS};
 use image_puts::put_status;
+use panoc_core::panoc_cache::ExitStatus;
 use panoc_ends::standing;
 use panoc_finish::finish;
 use panoc_next::next_step;
@@ -27,8 +29,8 @@ pub fn timed(
     requires { Sound (solve_of w.old k.now f.old) }
     ensures { (b : Board) → Times (solve_of w.old k.now f.old) in_time (six u.now gradient.now previous.old half.now fpr.old best.old b) (step_of result w.new k.now f.new) (six u.now gradient.now previous.new half.now fpr.new best.new b) }
 {
-    let sums = residual_sums::residual_into(u, half, gradient, fpr, k[3]);
-    put_status(standing(k[0], in_time), w);
+    let sums = residual_sums::residual_into(u, half, gradient, fpr, k[N]);
+    put_status(standing(k[LEFT], in_time), w);
     step(
         sums.norm,
         sums.product,
@@ -61,7 +63,7 @@ pub fn onward(
     requires { (Sound (solve_of w.old k.old f.old)) × (Residual (get_or k.old 3 0) u.now half.now gradient.now fpr.now norm product) }
     ensures { (b : Board) → Onward (solve_of w.old k.old f.old) (six u.now gradient.now previous.old half.now fpr.now best.old b) (step_of result w.new k.new f.new) (six u.now gradient.now previous.new half.now fpr.now best.new b) }
 {
-    if w[2] == 0 {
+    if w[STATUS] == ExitStatus::Converged as u32 {
         next_step(
             norm, product, w, k, f, u, gradient, previous, half, fpr, best,
         )

@@ -1,3 +1,4 @@
+use Rattle.image.specs.Rounds.{status_round}
 use Rattle.panoc_next.specs.Laws.{next_sound, next_lent}
 use mathlib.Core.Bool.{not, true}
 use borrow.Author.Tests.{eq-eqb, ne_eqb}
@@ -5,7 +6,7 @@ use Rattle.panoc_core.specs.Laws.{sound_left, sound_count, next_none, next_asks}
 use Rattle.panoc_core.specs.Rest.{sound}
 use Rattle.panoc_core.specs.Board.{six}
 use Rattle.image.specs.Image.{solve_of}
-use Rattle.std.proofs.Common.{arith, refl, ap}
+use Rattle.std.proofs.Common.{arith, refl, ap, ◌∙◌}
 use Rattle.panoc_next.proofs.next_step.Goals as goal
 
 pub finish-requires : goal.finish-requires
@@ -26,4 +27,4 @@ unfolding sound
 step-requires c = (next_sound c.args.w.now c.args.w.now c.args.k.now _ c.args.f.now _ _ (omega (arith, c.if-left-eq0.false)) refl c.put_steps.ensures c.requires.0, rw c.put_steps.ensures c.requires.1)
 
 pub returns : goal.returns
-returns c = λ b. next_lent c.args.w.now _ c.args.k.now _ c.args.f.now _ _ (omega (arith, c.if-left-eq0.false)) refl c.put_steps.ensures (six c.args.u.now c.args.gradient.now c.args.previous.now c.args.half.now c.args.fpr.now c.args.best.now b) _ _ _ (ap not (eq-eqb _ _ c.if-w-ne0.false)) c.standing.ensures c.put_status-2.ensures (c.step.ensures b)
+returns c = λ b. next_lent c.args.w.now _ c.args.k.now _ c.args.f.now _ _ (omega (arith, c.if-left-eq0.false)) refl c.put_steps.ensures (six c.args.u.now c.args.gradient.now c.args.previous.now c.args.half.now c.args.fpr.now c.args.best.now b) _ _ _ (ap not (eq-eqb _ _ c.if-w-ne0.false)) (λ s. status_round _ ∙ c.standing.ensures s) c.put_status-2.ensures (c.step.ensures b)
