@@ -2,12 +2,12 @@
 use panoc_core::panoc_cache::{ExitStatus, InnerIterations, Question, Solve};
 
 // A count of outer iterations; an inner count is another type.
-#[derive(Clone, Copy)]
+#[derive(Clone, Copy, Debug, PartialEq, Eq)]
 pub struct OuterIterations(pub usize);
 
 // What a start is given: n, n1, n2; whether a set Y is given; M and K; whether TIME is asked; the tolerances, the factors and the
 // decrease coefficient.
-#[derive(Clone, Copy)]
+#[derive(Clone, Copy, Debug, PartialEq)]
 pub struct AlmSettings {
     pub n: usize,
     pub n1: usize,
@@ -27,7 +27,7 @@ pub struct AlmSettings {
 
 // The running numbers: c, the AKKT tolerance of the inner solve, the infeasibilities of the iteration before and of this one, the norm
 // of the last solve.
-#[derive(Clone, Copy)]
+#[derive(Clone, Copy, Debug, PartialEq)]
 pub struct AlmNumbers {
     pub penalty: f64,
     pub akkt_tolerance: f64,
@@ -39,7 +39,7 @@ pub struct AlmNumbers {
 }
 
 // Which question a run waits for. Over: it has ended.
-#[derive(Clone, Copy)]
+#[derive(Clone, Copy, Debug, PartialEq, Eq)]
 pub enum AlmPhase {
     Over,
     Time,
@@ -52,7 +52,7 @@ pub enum AlmPhase {
 }
 
 // A question of the loop, or one of the inner solve that it carries.
-#[derive(Clone, Copy)]
+#[derive(Clone, Copy, Debug, PartialEq, Eq)]
 pub enum AlmQuestion {
     Inner(Question),
     Time,
@@ -64,7 +64,7 @@ pub enum AlmQuestion {
 }
 
 // What is handed back with the plan and the multipliers.
-#[derive(Clone, Copy)]
+#[derive(Clone, Copy, Debug, PartialEq)]
 pub struct AlmOptimizerStatus {
     pub exit_status: ExitStatus,
     pub num_outer_iterations: OuterIterations,
@@ -77,7 +77,7 @@ pub struct AlmOptimizerStatus {
 }
 
 // What a call gives.
-#[derive(Clone, Copy)]
+#[derive(Clone, Copy, Debug, PartialEq)]
 pub enum AlmOutcome {
     Asked(AlmQuestion),
     Ended(AlmOptimizerStatus),
@@ -87,7 +87,7 @@ pub enum AlmOutcome {
 
 // The small part of a run. left: how many outer iterations may still begin; outer, inner: the counts; found: the iterations of the last
 // solve; status: its end, or the end that is handed back.
-#[derive(Clone, Copy)]
+#[derive(Clone, Copy, Debug, PartialEq)]
 pub struct Alm {
     pub phase: AlmPhase,
     pub set: AlmSettings,
@@ -101,7 +101,7 @@ pub struct Alm {
 }
 
 // What a call in place gives: the vectors are where they were lent.
-#[derive(Clone, Copy)]
+#[derive(Clone, Copy, Debug, PartialEq)]
 pub struct AlmStepped {
     pub outcome: AlmOutcome,
     pub alm: Alm,

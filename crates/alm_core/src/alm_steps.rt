@@ -13,58 +13,23 @@ use panoc_core::panoc_cache::ExitStatus;
 pub fn at_phase(s: Alm, phase: AlmPhase) -> Alm
     ensures { result ≡ at_phase phase s }
 {
-    let set = s.set;
-    let numbers = s.numbers;
-    let outer = s.outer;
-    let inner = s.inner;
-    let found = s.found;
-    let status = s.status;
-    let solve = s.solve;
-    Alm {
-        phase,
-        set,
-        numbers,
-        left: s.left,
-        outer,
-        inner,
-        found,
-        status,
-        solve,
-    }
+    Alm { phase, ..s }
 }
 
 // The same run with another end.
 pub fn with_status(s: Alm, status: ExitStatus) -> Alm
     ensures { result ≡ with_status status s }
 {
-    let phase = s.phase;
-    let set = s.set;
-    let numbers = s.numbers;
-    let outer = s.outer;
-    let inner = s.inner;
-    let found = s.found;
-    let solve = s.solve;
-    Alm {
-        phase,
-        set,
-        numbers,
-        left: s.left,
-        outer,
-        inner,
-        found,
-        status,
-        solve,
-    }
+    Alm { status, ..s }
 }
 
 // On to another phase, with a question.
 pub fn asks(s: Alm, phase: AlmPhase, question: AlmQuestion) -> AlmStepped
     ensures { result ≡ stepped (AlmOutcome.Asked question) phase s }
 {
-    let alm = at_phase(s, phase);
     AlmStepped {
         outcome: AlmOutcome::Asked(question),
-        alm,
+        alm: at_phase(s, phase),
     }
 }
 
@@ -72,10 +37,9 @@ pub fn asks(s: Alm, phase: AlmPhase, question: AlmQuestion) -> AlmStepped
 pub fn stops(s: Alm, number: u32) -> AlmStepped
     ensures { result ≡ stepped (AlmOutcome.Refused number) AlmPhase.Over s }
 {
-    let alm = at_phase(s, AlmPhase::Over);
     AlmStepped {
         outcome: AlmOutcome::Refused(number),
-        alm,
+        alm: at_phase(s, AlmPhase::Over),
     }
 }
 
@@ -83,10 +47,9 @@ pub fn stops(s: Alm, number: u32) -> AlmStepped
 pub fn fails(s: Alm, code: u32) -> AlmStepped
     ensures { result ≡ stepped (AlmOutcome.Failed code) AlmPhase.Over s }
 {
-    let alm = at_phase(s, AlmPhase::Over);
     AlmStepped {
         outcome: AlmOutcome::Failed(code),
-        alm,
+        alm: at_phase(s, AlmPhase::Over),
     }
 }
 
@@ -95,6 +58,9 @@ pub fn conclude(s: Alm, status: ExitStatus) -> AlmStepped
     requires { sized s ≡ true }
     ensures { (b : LoopBoard) → Comes s.set (L.conclude binary64 (set_of s) (status_of status) (state_of s b)) result b }
 {
-    let t = with_status(s, status);
-    asks(t, AlmPhase::LastCost, AlmQuestion::Cost)
+    asks(
+        with_status(s, status),
+        AlmPhase::LastCost,
+        AlmQuestion::Cost,
+    )
 }

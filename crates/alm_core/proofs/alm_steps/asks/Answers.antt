@@ -4,4 +4,4 @@ use Rattle.alm_core.specs.declared.alm_cache.Alm.{Alm}
 use Rattle.alm_core.proofs.alm_steps.asks.Goals as goal
 
 pub returns : goal.returns
-returns c = ap (λ (t : Alm). record { outcome = O.Asked c.args.question; alm = t }) c.at_phase-alm.ensures
+returns c = ap (λ (t : Alm). record { outcome = O.Asked c.args.question; alm = t }) c.at_phase.ensures
