@@ -27,16 +27,7 @@ pub fn alm_phase_of(p: u32) -> AlmPhase
 pub fn alm_phase_number(p: AlmPhase) -> u32
     ensures { result ≡ phase_number p }
 {
-    match p {
-        AlmPhase::Over => 0,
-        AlmPhase::Time => 1,
-        AlmPhase::ProjectY => 2,
-        AlmPhase::Inner => 3,
-        AlmPhase::F1 => 4,
-        AlmPhase::ProjectC => 5,
-        AlmPhase::F2 => 6,
-        AlmPhase::LastCost => 7,
-    }
+    p as u32
 }
 
 pub fn alm_question_number(q: AlmQuestion) -> u32
