@@ -1,25 +1,18 @@
 -- The numbers of a lent loop, there and back. Assumes nothing.
 use Prim.Native.Nat.{ℕ}
 use mathlib.Core.Path.{◌≡◌, refl, ap, ◌∙◌}
-use mathlib.Core.Bool.{true, false}
 use mathlib.Core.List.{List, [], ◌∷◌}
 use lib.Ieee.{Float}
 use lib.ListN.{get_or}
 use Rattle.panoc_core.specs.declared.panoc_cache.ExitStatus.{ExitStatus}
-use Rattle.panoc_core.specs.declared.panoc_cache.Question.TheVariants as IQ
 use Rattle.panoc_core.specs.declared.panoc_cache.Solve.{Solve}
 use Rattle.alm_core.specs.declared.alm_cache.Alm.{Alm}
-use Rattle.alm_core.specs.declared.alm_cache.AlmOptimizerStatus.{AlmOptimizerStatus}
-use Rattle.alm_core.specs.declared.alm_cache.AlmOutcome.{AlmOutcome}
-use Rattle.alm_core.specs.declared.alm_cache.AlmOutcome.TheVariants.{Asked, Ended, Refused, Failed}
 use Rattle.alm_core.specs.declared.alm_cache.AlmPhase.{AlmPhase}
 use Rattle.alm_core.specs.declared.alm_cache.AlmPhase.TheVariants as P
-use Rattle.alm_core.specs.declared.alm_cache.AlmQuestion.{AlmQuestion}
-use Rattle.alm_core.specs.declared.alm_cache.AlmQuestion.TheVariants as Q
 use Rattle.alm_core.specs.declared.alm_cache.AlmSettings.{AlmSettings}
-use Rattle.image.specs.Image.{status_of, status_number, solve_of, noted, noted_count, noted_end}
+use Rattle.image.specs.Image.{status_of, status_number, solve_of}
 use Rattle.image.specs.Rounds.{status_round}
-use Rattle.alm_image.specs.AlmImage.{phase_of, phase_number, question_of, question_number, settings_of, alm_of, with_numbers, noted_outer, noted_ends, Tells}
+use Rattle.alm_image.specs.AlmImage.{phase_of, phase_number, settings_of, alm_of, with_numbers}
 
 phase_round : (p : AlmPhase) → phase_of (phase_number p) ≡ p
 phase_round P.Over = refl
@@ -30,20 +23,6 @@ phase_round P.F1 = refl
 phase_round P.ProjectC = refl
 phase_round P.F2 = refl
 phase_round P.LastCost = refl
-
-question_round : (q : AlmQuestion) → question_of (question_number q) ≡ q
-question_round (Q.Inner IQ.Cost) = refl
-question_round (Q.Inner IQ.Gradient) = refl
-question_round (Q.Inner IQ.Project) = refl
-question_round (Q.Inner (IQ.Direction true)) = refl
-question_round (Q.Inner (IQ.Direction false)) = refl
-question_round (Q.Inner IQ.Time) = refl
-question_round Q.Time = refl
-question_round Q.ProjectY = refl
-question_round Q.F1 = refl
-question_round Q.ProjectC = refl
-question_round Q.F2 = refl
-question_round Q.Cost = refl
 
 -- a small part with some of it given by equal values
 made : (s : Alm) (p : AlmPhase) (x : AlmSettings) (e : ExitStatus) (z : Solve) → p ≡ s.phase → x ≡ s.set → e ≡ s.status → z ≡ s.solve
@@ -65,36 +44,3 @@ pub kept_as : (s : Alm) (w k : List ℕ) (f : List Float) (lw lk : List ℕ) (lf
 kept_as s w k f lw lk lf lf' p e h₁ h₂ h₃ h₄ h₅ =
     ap (alm_of w k f (flags p e lw) (counts s lk)) h₃
     ∙ made s (phase_of p) (settings_of lw lk lf) (status_of e) (solve_of w k f) (ap phase_of h₁ ∙ phase_round s.phase) h₅ (ap status_of h₂ ∙ status_round s.status) h₄
-
--- ---- what a call tells
-module _ (o : AlmOutcome) (m : ℕ) (w w' k : List ℕ) (f : List Float) (lk : List ℕ) (lf : List Float) (n : w' ≡ noted m w) where
-  pub asked_as : (q : AlmQuestion) → o ≡ Asked q → m ≡ question_number q → Tells o 0 w k f lk lf w' k f lk lf
-  asked_as q h e = rw (n, h) (λ lw. refl, ap Asked (ap question_of e ∙ question_round q))
-
-  pub refused_as : o ≡ Refused m → Tells o 2 w k f lk lf w' k f lk lf
-  refused_as h = rw (n, h) (λ lw. refl, refl)
-
-  pub failed_as : o ≡ Failed m → Tells o 3 w k f lk lf w' k f lk lf
-  failed_as h = rw (n, h) (λ lw. refl, refl)
-
-  pub ended_as : (st : AlmOptimizerStatus) (k' : List ℕ) (f' : List Float) (lk' : List ℕ) (lf' : List Float) → o ≡ Ended st → m ≡ status_number st.exit_status
-      → (k' ≡ noted_count st.num_inner_iterations.0 k) × (f' ≡ noted_end st.last_problem_norm_fpr st.cost f)
-      → (lk' ≡ noted_outer st.num_outer_iterations.0 lk) × (lf' ≡ noted_ends st.delta_y_norm st.f2_norm st.penalty lf) → Tells o 1 w k f lk lf w' k' f' lk' lf'
-  ended_as st k' f' lk' lf' h e g g' =
-      rw (n, g.0, g.1, g'.0, g'.1, h) (
-        λ lw. refl,
-        ap
-            (λ (z : ExitStatus).
-            Ended
-            (record {
-              exit_status = z;
-              num_outer_iterations = st.num_outer_iterations;
-              num_inner_iterations = st.num_inner_iterations;
-              last_problem_norm_fpr = st.last_problem_norm_fpr;
-              delta_y_norm = st.delta_y_norm;
-              f2_norm = st.f2_norm;
-              penalty = st.penalty;
-              cost = st.cost;
-            }))
-            (ap status_of e ∙ status_round st.exit_status),
-      )

@@ -4,8 +4,15 @@ ghost use Rattle.image.specs.Image.{solve_of};
 ghost use Rattle.alm_image.specs.AlmImage.{settings_given, settings_of, numbers_of, alm_of, with_numbers, noted_outer, noted_ends, Tells};
 
 use crate::kinds::{alm_phase_number, alm_phase_of, alm_question_number};
+use crate::places::{
+    AKKT, COEFFICIENT, DELTA, DELTA_Y, DELTA_Y_PLUS, END_DELTA_Y, END_F2, END_OUTER, END_PENALTY,
+    EPSILON, EPSILON_FACTOR, F2, F2_PLUS, FOUND, HAS_SET_Y, INITIAL, INNER, LEFT, LIMITED,
+    MAX_INNER, MAX_OUTER, N, N1, N2, NORM_FPR, OUTER, PENALTY, PENALTY_FACTOR, PHASE, STATUS,
+    TOLERANCE,
+};
 use alm_core::alm_cache::{Alm, AlmNumbers, AlmOutcome, AlmSettings, OuterIterations};
 use image::kinds::{flag_of, status_number, status_of};
+use image::told;
 use image_keep::keep;
 use image_puts::{note, note_end};
 use image_solve::{keep_settings, solve_of};
@@ -30,16 +37,14 @@ pub fn settings_given(
 ) -> AlmSettings
     ensures { result ≡ settings_given n n1 n2 has_set_y max_inner max_outer limited tolerance epsilon delta initial penalty_factor epsilon_factor coefficient }
 {
-    let has_set_y = flag_of(has_set_y);
-    let limited = flag_of(limited);
     AlmSettings {
         n,
         n1,
         n2,
-        has_set_y,
+        has_set_y: flag_of(has_set_y),
         max_inner_iterations: max_inner,
         max_outer_iterations: max_outer,
-        limited,
+        limited: flag_of(limited),
         tolerance,
         epsilon_tolerance: epsilon,
         delta_tolerance: delta,
@@ -54,23 +59,21 @@ pub fn settings_given(
 pub fn settings_of(lw: &[u32; 4], lk: &[usize; 10], lf: &[f64; 17]) -> AlmSettings
     ensures { result ≡ settings_of lw.now lk.now lf.now }
 {
-    let has_set_y = flag_of(lw[2]);
-    let limited = flag_of(lw[3]);
     AlmSettings {
-        n: lk[4],
-        n1: lk[5],
-        n2: lk[6],
-        has_set_y,
-        max_inner_iterations: lk[7],
-        max_outer_iterations: lk[8],
-        limited,
-        tolerance: lf[7],
-        epsilon_tolerance: lf[8],
-        delta_tolerance: lf[9],
-        initial_inner_tolerance: lf[10],
-        penalty_update_factor: lf[11],
-        epsilon_update_factor: lf[12],
-        sufficient_decrease_coeff: lf[13],
+        n: lk[N],
+        n1: lk[N1],
+        n2: lk[N2],
+        has_set_y: flag_of(lw[HAS_SET_Y]),
+        max_inner_iterations: lk[MAX_INNER],
+        max_outer_iterations: lk[MAX_OUTER],
+        limited: flag_of(lw[LIMITED]),
+        tolerance: lf[TOLERANCE],
+        epsilon_tolerance: lf[EPSILON],
+        delta_tolerance: lf[DELTA],
+        initial_inner_tolerance: lf[INITIAL],
+        penalty_update_factor: lf[PENALTY_FACTOR],
+        epsilon_update_factor: lf[EPSILON_FACTOR],
+        sufficient_decrease_coeff: lf[COEFFICIENT],
     }
 }
 
@@ -79,13 +82,13 @@ pub fn numbers_of(lf: &[f64; 17]) -> AlmNumbers
     ensures { result ≡ numbers_of lf.now }
 {
     AlmNumbers {
-        penalty: lf[0],
-        akkt_tolerance: lf[1],
-        delta_y_norm: lf[2],
-        f2_norm: lf[3],
-        delta_y_norm_plus: lf[4],
-        f2_norm_plus: lf[5],
-        norm_fpr: lf[6],
+        penalty: lf[PENALTY],
+        akkt_tolerance: lf[AKKT],
+        delta_y_norm: lf[DELTA_Y],
+        f2_norm: lf[F2],
+        delta_y_norm_plus: lf[DELTA_Y_PLUS],
+        f2_norm_plus: lf[F2_PLUS],
+        norm_fpr: lf[NORM_FPR],
     }
 }
 
@@ -100,24 +103,16 @@ pub fn alm_of(
 ) -> Alm
     ensures { result ≡ alm_of w.now k.now f.now lw.now lk.now lf.now }
 {
-    let phase = alm_phase_of(lw[0]);
-    let set = settings_of(lw, lk, lf);
-    let numbers = numbers_of(lf);
-    let outer = OuterIterations(lk[1]);
-    let inner = InnerIterations(lk[2]);
-    let found = InnerIterations(lk[3]);
-    let status = status_of(lw[1]);
-    let solve = solve_of(w, k, f);
     Alm {
-        phase,
-        set,
-        numbers,
-        left: lk[0],
-        outer,
-        inner,
-        found,
-        status,
-        solve,
+        phase: alm_phase_of(lw[PHASE]),
+        set: settings_of(lw, lk, lf),
+        numbers: numbers_of(lf),
+        left: lk[LEFT],
+        outer: OuterIterations(lk[OUTER]),
+        inner: InnerIterations(lk[INNER]),
+        found: InnerIterations(lk[FOUND]),
+        status: status_of(lw[STATUS]),
+        solve: solve_of(w, k, f),
     }
 }
 
@@ -170,35 +165,13 @@ pub fn begin(
 fn keep_numbers(x: AlmNumbers, lf: &mut [f64; 17])
     ensures { lf.new ≡ with_numbers x lf.old }
 {
-    let a = lf[7];
-    let b = lf[8];
-    let c = lf[9];
-    let d = lf[10];
-    let e = lf[11];
-    let g = lf[12];
-    let h = lf[13];
-    let i = lf[14];
-    let j = lf[15];
-    let l = lf[16];
-    *lf = [
-        x.penalty,
-        x.akkt_tolerance,
-        x.delta_y_norm,
-        x.f2_norm,
-        x.delta_y_norm_plus,
-        x.f2_norm_plus,
-        x.norm_fpr,
-        a,
-        b,
-        c,
-        d,
-        e,
-        g,
-        h,
-        i,
-        j,
-        l,
-    ];
+    lf[PENALTY] = x.penalty;
+    lf[AKKT] = x.akkt_tolerance;
+    lf[DELTA_Y] = x.delta_y_norm;
+    lf[F2] = x.f2_norm;
+    lf[DELTA_Y_PLUS] = x.delta_y_norm_plus;
+    lf[F2_PLUS] = x.f2_norm_plus;
+    lf[NORM_FPR] = x.norm_fpr;
 }
 
 // The small part of a run, into lent numbers that have its settings.
@@ -214,31 +187,15 @@ pub fn keep_alm(
     requires { settings_of lw.old lk.old lf.old ≡ s.set }
     ensures { alm_of w.new k.new f.new lw.new lk.new lf.new ≡ s }
 {
-    let solve = s.solve;
-    let set = solve.set;
-    keep_settings(set, w, k, f);
-    keep(solve, w, k, f);
-    let at = s.phase;
-    let stands = s.status;
-    let phase = alm_phase_number(at);
-    let status = status_number(stands);
-    let has_set_y = lw[2];
-    let limited = lw[3];
-    *lw = [phase, status, has_set_y, limited];
-    let outer = s.outer;
-    let inner = s.inner;
-    let found = s.found;
-    let n = lk[4];
-    let n1 = lk[5];
-    let n2 = lk[6];
-    let max_inner = lk[7];
-    let max_outer = lk[8];
-    let ended = lk[9];
-    *lk = [
-        s.left, outer.0, inner.0, found.0, n, n1, n2, max_inner, max_outer, ended,
-    ];
-    let numbers = s.numbers;
-    keep_numbers(numbers, lf);
+    keep_settings(s.solve.set, w, k, f);
+    keep(s.solve, w, k, f);
+    lw[PHASE] = alm_phase_number(s.phase);
+    lw[STATUS] = status_number(s.status);
+    lk[LEFT] = s.left;
+    lk[OUTER] = s.outer.0;
+    lk[INNER] = s.inner.0;
+    lk[FOUND] = s.found.0;
+    keep_numbers(s.numbers, lf);
 }
 
 // The numbers of an end that an inner solve has not.
@@ -252,43 +209,10 @@ fn note_ends(
 )
     ensures { (lk.new ≡ noted_outer outer lk.old) × (lf.new ≡ noted_ends delta_y f2 penalty lf.old) }
 {
-    let a = lk[0];
-    let b = lk[1];
-    let c = lk[2];
-    let d = lk[3];
-    let n = lk[4];
-    let n1 = lk[5];
-    let n2 = lk[6];
-    let max_inner = lk[7];
-    let max_outer = lk[8];
-    *lk = [a, b, c, d, n, n1, n2, max_inner, max_outer, outer];
-    let x = numbers_of(lf);
-    let e = lf[7];
-    let g = lf[8];
-    let h = lf[9];
-    let i = lf[10];
-    let j = lf[11];
-    let l = lf[12];
-    let m = lf[13];
-    *lf = [
-        x.penalty,
-        x.akkt_tolerance,
-        x.delta_y_norm,
-        x.f2_norm,
-        x.delta_y_norm_plus,
-        x.f2_norm_plus,
-        x.norm_fpr,
-        e,
-        g,
-        h,
-        i,
-        j,
-        l,
-        m,
-        delta_y,
-        f2,
-        penalty,
-    ];
+    lk[END_OUTER] = outer;
+    lf[END_DELTA_Y] = delta_y;
+    lf[END_F2] = f2;
+    lf[END_PENALTY] = penalty;
 }
 
 // What a call has told, into the lent numbers; its kind is the result.
@@ -305,24 +229,34 @@ pub fn tell_alm(
     match o {
         AlmOutcome::Asked(q) => {
             note(alm_question_number(q), w);
-            0
+            told::ASKED
         }
         AlmOutcome::Ended(end) => {
-            let status = end.exit_status;
-            let outer = end.num_outer_iterations;
-            let inner = end.num_inner_iterations;
-            note(status_number(status), w);
-            note_end(inner.0, end.last_problem_norm_fpr, end.cost, k, f);
-            note_ends(outer.0, end.delta_y_norm, end.f2_norm, end.penalty, lk, lf);
-            1
+            note(status_number(end.exit_status), w);
+            note_end(
+                end.num_inner_iterations.0,
+                end.last_problem_norm_fpr,
+                end.cost,
+                k,
+                f,
+            );
+            note_ends(
+                end.num_outer_iterations.0,
+                end.delta_y_norm,
+                end.f2_norm,
+                end.penalty,
+                lk,
+                lf,
+            );
+            told::ENDED
         }
         AlmOutcome::Refused(number) => {
             note(number, w);
-            2
+            told::REFUSED
         }
         AlmOutcome::Failed(code) => {
             note(code, w);
-            3
+            told::FAILED
         }
     }
 }

@@ -1,5 +1,5 @@
-use Rattle.std.proofs.Common.{refl}
+use Rattle.alm_image.proofs.Spelled.{ten, seventeen}
 use Rattle.alm_image.proofs.lent.note_ends.Goals as goal
 
 pub returns : goal.returns
-returns c = (refl, rw c.numbers_of-x.ensures)
+returns c = (rw (ten c.args.lk.now c.told-lk), rw (seventeen c.args.lf.now c.told-lf))
