@@ -11,23 +11,17 @@ use start_sizes::xi_fits;
 pub fn lent_fits(set: AlmSettings, us: usize, places: usize) -> bool
     ensures { result ≡ lent_right set us places }
 {
-    if us == set.n {
-        xi_fits(set.n1, set.n2, places)
-    } else {
-        false
-    }
+    us == set.n && xi_fits(set.n1, set.n2, places)
 }
 
 // The plan of an end goes from u into the lent slice.
+#[tactic(auto, unfolding(alm_core::specs::Board::given))]
 pub fn hand_out(outcome: AlmOutcome, u: &[f64; 64], plan: &mut [f64])
     requires { length plan.old ≤ 64 }
     ensures { plan.new ≡ given outcome (firsts (length plan.old) u.now) plan.old }
 {
-    match outcome {
-        AlmOutcome::Ended(_) => vector_copies::give(u, plan),
-        AlmOutcome::Asked(_) => {}
-        AlmOutcome::Refused(_) => {}
-        AlmOutcome::Failed(_) => {}
+    if let AlmOutcome::Ended(_) = outcome {
+        vector_copies::give(u, plan);
     }
 }
 
@@ -45,21 +39,18 @@ pub fn fill_xi(penalty: f64, y: &[f64; 64], xi: &mut [f64])
     requires { length xi.old ≤ 33 }
     ensures { xi.new ≡ xi_given penalty y.now xi.old }
 {
-    if xi.len() == 0 {
-        return;
+    if xi.len() != 0 {
+        give_xi(penalty, y, xi);
     }
-    give_xi(penalty, y, xi);
 }
 
 // The penalty and the multipliers of an end go into the lent xi.
+#[tactic(auto, unfolding(crate::specs::LoopCalls::xi_handed))]
 pub fn hand_out_xi(outcome: AlmOutcome, plus: &[f64; 64], xi: &mut [f64])
     requires { length xi.old ≤ 33 }
     ensures { xi.new ≡ xi_handed outcome plus.now xi.old }
 {
-    match outcome {
-        AlmOutcome::Ended(status) => fill_xi(status.penalty, plus, xi),
-        AlmOutcome::Asked(_) => {}
-        AlmOutcome::Refused(_) => {}
-        AlmOutcome::Failed(_) => {}
+    if let AlmOutcome::Ended(status) = outcome {
+        fill_xi(status.penalty, plus, xi);
     }
 }

@@ -1,4 +1,5 @@
-// Enums as numbers. Any number is read.
+// Enums as numbers. Any number is read. Functions and no From: an impl would stand beside the enums, in panoc_core, and the numbers are
+// those of this layout. A number from an enum without fields is its place in the enum.
 ghost use Rattle.std.specs.Prelude.{◌≡◌};
 ghost use Rattle.image.specs.Image.{phase_of, phase_number, status_of, status_number, flag_of, flag_number, akkt_of, akkt_set, akkt_value, question_of, question_number, reply_of};
 
