@@ -11,15 +11,13 @@ use panoc_core::panoc_cache::{AkktTolerance, ExitStatus, InnerIterations, Settin
 pub fn first(set: AlmSettings, penalty: f64, left: usize) -> Alm
     ensures { result ≡ first_alm set penalty left }
 {
-    let akkt_tolerance = AkktTolerance::Set(set.initial_inner_tolerance);
     let inner_set = Settings {
         n: set.n,
         max_iter: set.max_inner_iterations,
         limited: set.limited,
         tolerance: set.tolerance,
-        akkt_tolerance,
+        akkt_tolerance: AkktTolerance::Set(set.initial_inner_tolerance),
     };
-    let solve = panoc_starts::begin(inner_set);
     let numbers = AlmNumbers {
         penalty,
         akkt_tolerance: set.initial_inner_tolerance,
@@ -29,18 +27,15 @@ pub fn first(set: AlmSettings, penalty: f64, left: usize) -> Alm
         f2_norm_plus: 0.0,
         norm_fpr: 0.0,
     };
-    let outer = OuterIterations(0);
-    let inner = InnerIterations(0);
-    let found = InnerIterations(0);
     Alm {
         phase: AlmPhase::Over,
         set,
         numbers,
         left,
-        outer,
-        inner,
-        found,
+        outer: OuterIterations(0),
+        inner: InnerIterations(0),
+        found: InnerIterations(0),
         status: ExitStatus::Converged,
-        solve,
+        solve: panoc_starts::begin(inner_set),
     }
 }
