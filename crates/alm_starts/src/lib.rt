@@ -18,75 +18,54 @@ use start_sizes::{mappings_right, sizes_right};
 use start_tests::{multipliers_in, penalty_in, xi_right};
 
 // The tolerances.
+#[tactic(auto, unfolding(alm_calls::specs::LoopCalls::tolerances_right))]
 pub fn tolerances_right(set: AlmSettings) -> bool
     ensures { result ≡ tolerances_right set }
 {
-    if tolerance_right(set.tolerance) {
-        if tolerance_right(set.epsilon_tolerance) {
-            if tolerance_right(set.delta_tolerance) {
-                tolerance_right(set.initial_inner_tolerance)
-            } else {
-                false
-            }
-        } else {
-            false
-        }
-    } else {
-        false
-    }
+    tolerance_right(set.tolerance)
+        && tolerance_right(set.epsilon_tolerance)
+        && tolerance_right(set.delta_tolerance)
+        && tolerance_right(set.initial_inner_tolerance)
 }
 
 // The factors and the coefficient.
+#[tactic(auto, unfolding(alm_calls::specs::LoopCalls::factors_right))]
 pub fn factors_right(set: AlmSettings) -> bool
     ensures { result ≡ factors_right set }
 {
-    if factor_right(set.penalty_update_factor) {
-        if fraction_right(set.epsilon_update_factor) {
-            fraction_right(set.sufficient_decrease_coeff)
-        } else {
-            false
-        }
-    } else {
-        false
-    }
+    factor_right(set.penalty_update_factor)
+        && fraction_right(set.epsilon_update_factor)
+        && fraction_right(set.sufficient_decrease_coeff)
 }
 
 // M and K.
+#[tactic(auto, unfolding(alm_calls::specs::LoopCalls::limits_right))]
 pub fn limits_right(set: AlmSettings) -> bool
     ensures { result ≡ limits_right set }
 {
-    if limit_right(10000, set.max_inner_iterations) {
-        limit_right(1000, set.max_outer_iterations)
-    } else {
-        false
-    }
+    limit_right(10000, set.max_inner_iterations) && limit_right(1000, set.max_outer_iterations)
 }
 
 // The number of the start's refusal, 1 to 5, and 0 for none.
 pub fn start_refusal(set: AlmSettings, us: usize, xi: &[f64]) -> u32
     ensures { result ≡ R.loop_refusal binary64 (settings_of set) us xi.now }
 {
-    if sizes_right(set.n, us) {
-        if mappings_right(set.n1, set.n2, set.has_set_y, xi.len()) {
-            if limits_right(set) {
-                if tolerances_right(set) {
-                    if factors_right(set) {
-                        if xi_right(xi) { 0 } else { 5 }
-                    } else {
-                        4
-                    }
-                } else {
-                    4
-                }
-            } else {
-                3
-            }
-        } else {
-            2
-        }
-    } else {
-        1
+    if !sizes_right(set.n, us) {
+        return 1;
     }
+    if !mappings_right(set.n1, set.n2, set.has_set_y, xi.len()) {
+        return 2;
+    }
+    if !limits_right(set) {
+        return 3;
+    }
+    if !tolerances_right(set) {
+        return 4;
+    }
+    if !factors_right(set) {
+        return 4;
+    }
+    if xi_right(xi) { 0 } else { 5 }
 }
 
 // A run in place that is begun at first and xi, or its refusal.
@@ -122,11 +101,9 @@ pub fn start(set: AlmSettings, u: &[f64], xi: &[f64]) -> AlmAnswered
     let mut y = vector_copies::zeros();
     let mut plus = vector_copies::zeros();
     let r = start_in_place(set, u, xi, &mut v, &mut y, &mut plus);
-    let outcome = r.outcome;
-    let alm = r.alm;
     let zeros = vector_copies::zeros();
     let run = AlmRun {
-        alm,
+        alm: r.alm,
         u: v,
         u_plus: zeros,
         gradient_u: zeros,
@@ -140,5 +117,8 @@ pub fn start(set: AlmSettings, u: &[f64], xi: &[f64]) -> AlmAnswered
         y_plus: plus,
         w_alm_aux: zeros,
     };
-    AlmAnswered { outcome, run }
+    AlmAnswered {
+        outcome: r.outcome,
+        run,
+    }
 }
