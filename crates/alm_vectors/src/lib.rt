@@ -14,33 +14,23 @@ use panoc_core::panoc_cache::{Phase, Solve};
 pub fn carries_xi(s: Solve) -> bool
     ensures { result ≡ carries_xi s.phase }
 {
-    let phase = s.phase;
-    carries_xi_at(phase)
+    carries_xi_at(s.phase)
 }
 
 // The same at a phase.
 pub fn carries_xi_at(phase: Phase) -> bool
     ensures { result ≡ carries_xi phase }
 {
-    match phase {
-        Phase::Cost => true,
-        Phase::Gradient => true,
-        Phase::Shifted => true,
-        Phase::Project => false,
-        Phase::HalfCost => true,
-        Phase::DoubledProject => false,
-        Phase::DoubledCost => true,
-        Phase::Direction => false,
-        Phase::FirstCost => true,
-        Phase::FirstGradient => true,
-        Phase::FirstProject => false,
-        Phase::TriedCost => true,
-        Phase::TriedGradient => true,
-        Phase::TriedProject => false,
-        Phase::Time => false,
-        Phase::LastCost => true,
-        Phase::Over => false,
-    }
+    !matches!(
+        phase,
+        Phase::Project
+            | Phase::DoubledProject
+            | Phase::Direction
+            | Phase::FirstProject
+            | Phase::TriedProject
+            | Phase::Time
+            | Phase::Over
+    )
 }
 
 // The first point of the question that the run waits with.
@@ -59,18 +49,15 @@ pub fn first_point(
     requires { (Sound s) × (length first.old ≡ first_places s s.phase) }
     ensures { (b : LoopBoard) → first.new ≡ first_at s (asked u.now candidate.now step.now half.now fpr.now best.now y.now plus.now b) s.phase first.old }
 {
-    let phase = s.phase;
-    match phase {
-        AlmPhase::Time => {}
+    match s.phase {
         AlmPhase::ProjectY => vector_copies::give(y, first),
         AlmPhase::Inner => panoc_places::first_point(
             s.solve, first, u, candidate, step, half, fpr, best,
         ),
-        AlmPhase::F1 => vector_copies::give(best, first),
+        AlmPhase::F1 | AlmPhase::F2 => vector_copies::give(best, first),
         AlmPhase::ProjectC => vector_copies::give(plus, first),
-        AlmPhase::F2 => vector_copies::give(best, first),
         AlmPhase::LastCost => vector_copies::give(u, first),
-        AlmPhase::Over => {}
+        AlmPhase::Time | AlmPhase::Over => {}
     }
 }
 
@@ -91,15 +78,9 @@ pub fn second_point(s: Alm, second: &mut [f64], u: &[f64; 64], y: &[f64; 64])
     requires { (Sound s) × (length second.old ≡ second_places s s.phase) }
     ensures { second.new ≡ second_at_phase s u.now y.now s.phase second.old }
 {
-    let phase = s.phase;
-    match phase {
-        AlmPhase::Time => {}
-        AlmPhase::ProjectY => {}
+    match s.phase {
         AlmPhase::Inner => inner_second_point(s, second, u, y),
-        AlmPhase::F1 => {}
-        AlmPhase::ProjectC => {}
-        AlmPhase::F2 => {}
         AlmPhase::LastCost => fill_xi(0.0, y, second),
-        AlmPhase::Over => {}
+        _ => {}
     }
 }
