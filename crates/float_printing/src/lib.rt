@@ -1,12 +1,14 @@
-// A float printed by its bits, into a lent buffer at a place; the call gives the place behind what it put.
+// A float printed by its bits, behind what a line already holds.
 #![tactic(auto)]
 
-ghost use Rattle.std.specs.Prelude.{◌≡◌, ◌+◌, ◌≤◌, length};
-ghost use Rattle.std.specs.Float.{binary64};
+ghost use Rattle.arrayvec.specs.ArrayVec.{array_vec_len};
 ghost use Rattle.std.specs.Float.Ieee.{to_bits};
-ghost use Rattle.word_printing.specs.Printing.{float_word, written};
+ghost use Rattle.std.specs.Float.{binary64};
+ghost use Rattle.std.specs.Prelude.{◌≡◌, ◌+◌, ◌≤◌, ◌++◌};
+ghost use Rattle.word_printing.specs.Printing.{float_word};
 
-use word_printing::glyph;
+use arrayvec::ArrayVec;
+use word_printing::put_digits;
 
 // The pattern that is printed for every NaN.
 const QUIET: u64 = 9221120237041090560;
@@ -22,16 +24,10 @@ pub fn to_bits(x: f64) -> u64
 }
 
 // A float as 16 hexadecimal digits.
-pub fn put_float(x: f64, out: &mut [u8], at: usize) -> usize
-    requires { at + 16 ≤ length out.old }
-    ensures { (result ≡ at + 16) × (out.new ≡ written out.old at (float_word x)) }
+pub fn put_float<const N: usize>(x: f64, out: &mut ArrayVec<u8, N>)
+    requires { array_vec_len out.old + 16 ≤ N }
+    ensures text { out.new.items ≡ out.old.items ++ float_word x }
+    ensures len { array_vec_len out.new ≡ array_vec_len out.old + 16 }
 {
-    let mut rest = to_bits(x);
-    let mut i = 16usize;
-    while i > 0 {
-        i -= 1;
-        out[at + i] = glyph(rest % 16);
-        rest = rest / 16;
-    }
-    at + 16
+    put_digits(to_bits(x), 16, 16, out);
 }

@@ -1,41 +1,42 @@
-// What is printed of several: floats, and a word with floats or a number behind it. Each call gives the place behind what it put.
+// What is printed of several, behind what a line already holds: floats, and a word with floats or a number behind it.
 #![tactic(auto)]
 
-ghost use Rattle.std.specs.Prelude.{◌≡◌, ◌+◌, ◌*◌, ◌≤◌, length};
-ghost use Rattle.word_printing.specs.Printing.{floats_text, counted_text, point_text, written};
+ghost use Rattle.arrayvec.specs.ArrayVec.{array_vec_len};
+ghost use Rattle.std.specs.Prelude.{◌≡◌, ◌+◌, ◌*◌, ◌≤◌, ◌++◌, length};
+ghost use Rattle.word_printing.specs.Printing.{counted_text, floats_text, point_text};
 
+use arrayvec::ArrayVec;
 use float_printing::put_float;
 use word_printing::{put_whole, put_word};
 
 // Floats, each with a space before it.
-pub fn put_floats(xs: &[f64], out: &mut [u8], at: usize) -> usize
-    requires { at + 17 * length xs.now ≤ length out.old }
-    ensures { (result ≡ at + 17 * length xs.now) × (out.new ≡ written out.old at (floats_text xs.now)) }
+pub fn put_floats<const N: usize>(xs: &[f64], out: &mut ArrayVec<u8, N>)
+    requires { array_vec_len out.old + 17 * length xs.now ≤ N }
+    ensures text { out.new.items ≡ out.old.items ++ floats_text xs.now }
+    ensures len { array_vec_len out.new ≡ array_vec_len out.old + 17 * length xs.now }
 {
-    let mut i = 0usize;
-    let mut o = at;
-    while i < xs.len() {
-        out[o] = b' ';
-        o = put_float(xs[i], out, o + 1);
-        i += 1;
+    for &x in xs {
+        out.push(b' ');
+        put_float(x, out);
     }
-    o
 }
 
 // A word with a whole number behind it.
-pub fn put_counted(word: &[u8], n: u64, out: &mut [u8], at: usize) -> usize
-    requires { at + length word.now + 20 ≤ length out.old }
-    ensures { (result ≡ at + length (counted_text word.now n)) × (out.new ≡ written out.old at (counted_text word.now n)) × (result ≤ at + length word.now + 20) }
+pub fn put_counted<const N: usize>(word: &[u8], n: u64, out: &mut ArrayVec<u8, N>)
+    requires { array_vec_len out.old + length word.now + 20 ≤ N }
+    ensures text { out.new.items ≡ out.old.items ++ counted_text word.now n }
+    ensures most { array_vec_len out.new ≤ array_vec_len out.old + length word.now + 20 }
 {
-    let next = put_word(word, out, at);
-    put_whole(n, out, next)
+    put_word(word, out);
+    put_whole(n, out);
 }
 
 // A word with floats behind it.
-pub fn put_point(word: &[u8], xs: &[f64], out: &mut [u8], at: usize) -> usize
-    requires { at + length word.now + 17 * length xs.now ≤ length out.old }
-    ensures { (result ≡ at + length word.now + 17 * length xs.now) × (out.new ≡ written out.old at (point_text word.now xs.now)) }
+pub fn put_point<const N: usize>(word: &[u8], xs: &[f64], out: &mut ArrayVec<u8, N>)
+    requires { array_vec_len out.old + length word.now + 17 * length xs.now ≤ N }
+    ensures text { out.new.items ≡ out.old.items ++ point_text word.now xs.now }
+    ensures len { array_vec_len out.new ≡ array_vec_len out.old + length word.now + 17 * length xs.now }
 {
-    let next = put_word(word, out, at);
-    put_floats(xs, out, next)
+    put_word(word, out);
+    put_floats(xs, out);
 }

@@ -1,3 +1,1 @@
 pub mod Printing
-pub mod Places
-pub mod Written

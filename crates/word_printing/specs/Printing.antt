@@ -1,5 +1,5 @@
 -- What is printed: TRANSCRIPT.md, "Words". Definitions only.
-use Rattle.std.specs.Prelude.{ℕ, ◌+◌, List, [], ◌∷◌, ◌++◌, length, take, drop, Float}
+use Rattle.std.specs.Prelude.{ℕ, List, [], ◌∷◌, ◌++◌, Float}
 use Rattle.std.specs.Float.{binary64}
 use Rattle.std.specs.Float.Ieee.{to_bits}
 use Rattle.word_numbers.specs.Digits.{digits, places_in}
@@ -23,7 +23,3 @@ counted_text w n = w ++ whole_word n
 
 unfoldable pub point_text : List ℕ → List Float → List ℕ
 point_text w xs = w ++ floats_text xs
-
--- a buffer in which w stands at a place, with the rest as it was
-unfoldable pub written : List ℕ → ℕ → List ℕ → List ℕ
-written out at w = take at out ++ w ++ drop (at + length w) out

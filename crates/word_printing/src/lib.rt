@@ -1,10 +1,13 @@
-// What is printed, into a lent buffer at a place: a word, a whole number. Each call gives the place behind what it put.
+// What is printed, behind what a line already holds: a word, digits, a whole number. A line has a fixed room.
 #![tactic(auto)]
 
-ghost use Rattle.std.specs.Prelude.{◌≡◌, ◌+◌, ◌≤◌, ◌<◌, length};
-ghost use Rattle.word_numbers.specs.Digits.{places_in};
+ghost use Rattle.arrayvec.specs.ArrayVec.{array_vec_len};
+ghost use Rattle.std.specs.Prelude.{◌≡◌, ◌+◌, ◌^◌, ◌≤◌, ◌<◌, ◌++◌, suc, length, ℕ};
+ghost use Rattle.word_numbers.specs.Digits.{digits, places_in};
 ghost use Rattle.word_numbers.specs.Digits.{glyph as Digits·glyph};
-ghost use Rattle.word_printing.specs.Printing.{whole_word, written};
+ghost use Rattle.word_printing.specs.Printing.{whole_word};
+
+use arrayvec::ArrayVec;
 
 // The byte of a digit.
 pub fn glyph(d: u64) -> u8
@@ -15,43 +18,38 @@ pub fn glyph(d: u64) -> u8
 }
 
 // A word as it is.
-pub fn put_word(word: &[u8], out: &mut [u8], at: usize) -> usize
-    requires { at + length word.now ≤ length out.old }
-    ensures { (result ≡ at + length word.now) × (out.new ≡ written out.old at word.now) }
+pub fn put_word<const N: usize>(word: &[u8], out: &mut ArrayVec<u8, N>)
+    requires { array_vec_len out.old + length word.now ≤ N }
+    ensures { out.new.items ≡ out.old.items ++ word.now }
 {
-    let mut i = 0usize;
-    while i < word.len() {
-        out[at + i] = word[i];
-        i += 1;
+    let _fits = out.try_extend_from_slice(word);
+}
+
+// The last digits of a number in a base, the most significant first.
+pub fn put_digits<const N: usize>(n: u64, base: u64, places: usize, out: &mut ArrayVec<u8, N>)
+    requires digits { (0 < base) × (base ≤ 16) }
+    requires room { array_vec_len out.old + places ≤ N }
+    ensures text { out.new.items ≡ out.old.items ++ digits base places n }
+    ensures len { array_vec_len out.new ≡ array_vec_len out.old + places }
+{
+    if places > 0 {
+        put_digits(n / base, base, places - 1, out);
+        out.push(glyph(n % base));
     }
-    at + i
 }
 
 // How many decimal digits a number has.
 fn places(n: u64) -> usize
-    ensures { (result ≡ places_in 19 n) × (result ≤ 20) }
+    ensures { (most : ℕ) → n < 10 ^ suc most → result ≡ places_in most n }
 {
-    let mut k = 1usize;
-    let mut rest = n;
-    while rest >= 10 {
-        rest = rest / 10;
-        k += 1;
-    }
-    k
+    if n < 10 { 1 } else { 1 + places(n / 10) }
 }
 
 // A whole number in decimal.
-pub fn put_whole(n: u64, out: &mut [u8], at: usize) -> usize
-    requires { at + 20 ≤ length out.old }
-    ensures { (result ≡ at + length (whole_word n)) × (out.new ≡ written out.old at (whole_word n)) }
+pub fn put_whole<const N: usize>(n: u64, out: &mut ArrayVec<u8, N>)
+    requires { array_vec_len out.old + 20 ≤ N }
+    ensures text { out.new.items ≡ out.old.items ++ whole_word n }
+    ensures most { array_vec_len out.new ≤ array_vec_len out.old + 20 }
 {
-    let k = places(n);
-    let mut rest = n;
-    let mut i = k;
-    while i > 0 {
-        i -= 1;
-        out[at + i] = glyph(rest % 10);
-        rest = rest / 10;
-    }
-    at + k
+    put_digits(n, 10, places(n), out);
 }

@@ -1,22 +1,9 @@
--- `float_printing::put_float` meets its contract: after each turn one digit more stands, from the last on. Assumes nothing.
-use Rattle.std.proofs.Common.{refl, ap, arith}
+-- `float_printing::put_float` meets its contract: the digits are those of the float's bits. Assumes nothing.
+use Rattle.std.proofs.Common.{◌∙◌, ap, ◌++◌, ℕ}
 use Rattle.word_numbers.specs.Digits.{digits}
 use Rattle.word_printing.specs.Printing.{float_word}
-use Rattle.word_printing.proofs.Written.{spelt_none, spelt_turn, spelt_all, spelt_length}
 use Rattle.float_printing.proofs.put_float.Goals as goal
 
-pub loop-i-init : goal.loop-i-init
+pub returns-clause-text : goal.returns-clause-text
 unfolding float_word
-loop-i-init c = (omega arith, spelt_none _ _ _ _ _ _ (ap (digits 16 16) c.to_bits-rest.ensures))
-
-pub bounds-out-at : goal.bounds-out-at
-bounds-out-at c = omega (arith, spelt_length _ _ _ _ _ _ _ _ c.requires c.loop-i.invariant.1)
-
-pub loop-i-preserved : goal.loop-i-preserved
-loop-i-preserved c = (omega arith, spelt_turn _ _ _ _ _ _ _ _ _ (omega arith) (omega arith) c.glyph.ensures c.loop-i.invariant.1)
-
-pub shape_of-out : goal.shape_of-out
-shape_of-out c = spelt_length _ _ _ _ _ _ _ _ c.requires c.loop-i.invariant.1
-
-pub returns : goal.returns
-returns c = (refl, spelt_all _ _ _ _ _ _ _ _ (omega arith) c.loop-i.invariant.1)
+returns-clause-text g c = c.put_digits.ensures.text ∙ ap (λ (bits : ℕ). c.args.out.now.items ++ digits 16 16 bits) c.to_bits.ensures

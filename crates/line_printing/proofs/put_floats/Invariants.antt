@@ -1,11 +1,9 @@
--- `line_printing::put_floats` meets its contract: after i turns the first i floats stand. Assumes nothing.
-use Rattle.std.proofs.Common.{◌≤◌, ◌+◌, ◌*◌, ◌-◌, ◌≡◌}
-use Rattle.std.proofs.Math.ListN.{length, take}
-use Rattle.word_printing.specs.Printing.{floats_text, written}
+-- `line_printing::put_floats` meets its contract: what stands and the floats to come make the text. Assumes nothing.
+use Rattle.std.proofs.Common.{◌≡◌, ◌+◌, ◌*◌, ◌++◌, length, drop}
+use Rattle.word_printing.specs.Printing.{floats_text}
 use Rattle.line_printing.proofs.put_floats.Given as goal
 
-abbrev pub invariant-loop-i : goal.invariant-loop-i
-invariant-loop-i l = (l.i ≤ length l.xs) × (l.o ≡ l.at + 17 * l.i) × (length l.out ≡ length l.initial.out) × (l.out ≡ written l.initial.out l.at (floats_text (take l.i l.xs)))
-
-abbrev pub decreases-loop-i : goal.decreases-loop-i
-decreases-loop-i l = length l.xs - l.i
+abbrev pub invariant-loop-x : goal.invariant-loop-x
+invariant-loop-x g l =
+    (length l.out.items ≡ length l.initial.out.items + 17 * l.x-index)
+    × (l.out.items ++ floats_text (drop l.x-index l.xs) ≡ l.initial.out.items ++ floats_text l.xs)

@@ -1,9 +1,9 @@
 -- `line_printing::put_point` meets its contract: the floats stand behind the word. Assumes nothing.
-use Rattle.std.proofs.Common.{arith}
+use Rattle.std.proofs.Common.{◌∙◌, ap, ◌++◌, List, ℕ, append_assoc}
 use Rattle.word_printing.specs.Printing.{point_text, floats_text}
-use Rattle.word_printing.proofs.Written.{behind_word, length_floats}
 use Rattle.line_printing.proofs.put_point.Goals as goal
 
-pub returns : goal.returns
+pub returns-clause-text : goal.returns-clause-text
 unfolding point_text
-returns c = (omega (arith, c.put_word-next.ensures.0, c.put_floats.ensures.0), behind_word _ _ _ (floats_text c.args.xs.now) _ _ _ (omega (arith, length_floats c.args.xs.now)) c.put_word-next.ensures.0 c.put_word-next.ensures.1 c.put_floats.ensures.1)
+returns-clause-text g c =
+    c.put_floats.ensures.text ∙ ap (λ (l : List ℕ). l ++ floats_text c.args.xs.now) c.put_word.ensures ∙ append_assoc c.args.out.now.items c.args.word.now (floats_text c.args.xs.now)
