@@ -1,42 +1,54 @@
 // The transcript program: it makes the engine's calls one by one, as its input says, and prints what each gave. See TRANSCRIPT.md.
 #![tactic(auto)]
 
-ghost use Rattle.std.specs.Prelude.{◌≡◌, ◌≤◌, ◌<◌, length};
-
 mod answers;
-mod turns;
+mod reading;
 
+use answers::answered;
+use line_starts::command::Command;
+use reading::{heard, next};
 use std::io;
-use transcript_lines::refill::flush;
-use transcript_starts::opened::opened;
-use turns::play;
+use std::io::{BufReader, BufWriter, Write};
+use transcript_lines::output::{Line, alone};
+use transcript_starts::{d_psi, inner, opened, outer, psi};
+use transcript_state::Play;
 
-// All lines of the input; what they print is written at the end.
-fn all(
-    rt: &(impl Input + Print),
-    buf: &mut [u8],
-    u: &mut [f64],
-    xi: &mut [f64],
-    out: &mut [u8],
-) -> io::Result<()>
-    requires in_bounds { (4608 ≤ length buf.old) × (length buf.old < 100000) × (length u.old ≤ 128) × (length xi.old ≤ 128) }
-    requires in_bounds_2 { 4608 ≤ length out.old }
-{
-    let p = play(rt, opened(), buf, u, xi, out)?;
-    flush(rt, out, p.session.at)
+// What a line says is done; gives what is printed of it.
+fn turn(play: &mut Play, line: &[u8]) -> Line {
+    let Some((command, u, xi)) = heard(line) else {
+        return alone(b"bad");
+    };
+    let (next, told) = match command {
+        Command::Inner(set) => inner(set, u),
+        Command::Loop(set) => outer(set, u, xi),
+        Command::Psi(set) => psi(set, u, xi),
+        Command::DPsi(set) => d_psi(set, u, xi),
+        Command::Answer(given) => return answered(play, given, u.as_slice()),
+        Command::Lend(us, xis) => return play.lend(us as usize, xis as usize),
+        Command::Show => return play.show(),
+        Command::Bad => return alone(b"bad"),
+    };
+    *play = next;
+    told
 }
 
-// Room for what is read, or for what is printed.
-fn buffer() -> [u8; 65536]
-    ensures { 65536 ≡ length result }
-{
-    [0; 65536]
-}
-
+// A loop has to end and nothing says that the input does, so it counts its turns, up to a number that no input uses up. What is printed is written before more is
+// waited for.
 fn main(rt: HostRuntime) -> io::Result<()> {
-    let mut buf = buffer();
-    let mut out = buffer();
-    let mut u = [0.0; 128];
-    let mut xi = [0.0; 128];
-    all(&rt, &mut buf, &mut u, &mut xi, &mut out)
+    let mut input = BufReader::new(rt.alloc(), rt.reader())?;
+    let mut out = BufWriter::new(rt.alloc(), io::writer(&rt))?;
+    let mut line = Vec::new(rt.alloc());
+    let mut play = opened();
+    for _ in 0..u64::MAX {
+        if !input.buffer().contains(&b'\n') {
+            out.flush()?;
+        }
+        if !next(&mut input, &mut line)? {
+            break;
+        }
+        let told = turn(&mut play, line.as_slice());
+        out.write_all(told.as_slice())?;
+        out.write_all(b"\n")?;
+    }
+    out.flush()
 }

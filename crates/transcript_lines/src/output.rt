@@ -1,52 +1,75 @@
-// What several kinds of runs print alike.
-ghost use Rattle.std.specs.Prelude.{◌≡◌, ◌+◌, ◌≤◌, length};
+// A line that is printed, and what several kinds of runs print alike.
+ghost use Rattle.arrayvec.specs.ArrayVec.{array_vec_len};
+ghost use Rattle.std.specs.Prelude.{◌≤◌, length};
 
-use line_printing::put_counted;
+use arrayvec::ArrayVec;
+use line_printing::{put_counted, put_point};
 use panoc_core::panoc_cache::ExitStatus;
 
-// The smaller of two.
-pub fn least(a: usize, b: usize) -> usize
-    ensures { (result ≤ a) × (result ≤ b) }
+// A line has at most so many bytes; two lent slices of 128 floats have the most, 4359.
+pub type Line = ArrayVec<u8, 4500>;
+
+// A word, with nothing behind it: `bad`, `ended`.
+pub fn alone(word: &[u8]) -> Line
+    requires { length word.now ≤ 50 }
 {
-    if a < b { a } else { b }
+    put_points(word, &[], b"", &[])
 }
 
-// Room for a point.
-pub fn places() -> [f64; 64]
-    ensures { 64 ≡ length result }
+// Two points, each with its word before it.
+pub fn put_points(word: &[u8], p: &[f64], then: &[u8], q: &[f64]) -> Line
+    requires words { (length word.now ≤ 50) × (length then.now ≤ 50) }
+    requires places { (length p.now ≤ 128) × (length q.now ≤ 128) }
 {
-    [0.0; 64]
+    let mut line = Line::new();
+    put_point(word, p, &mut line);
+    put_point(then, q, &mut line);
+    line
+}
+
+// A question, with its points, which have so many places; `points` puts them there.
+pub fn asked<P: FnOnce(&mut [f64], &mut [f64]) -> u32>(
+    word: &[u8],
+    first: usize,
+    then: &[u8],
+    second: usize,
+    points: P,
+) -> Line
+    requires words { (length word.now ≤ 50) × (length then.now ≤ 50) }
+    requires callable { P.IsAlwaysCallable points }
+{
+    let mut p = [0.0; 64];
+    let mut q = [0.0; 64];
+    let n = first.min(64);
+    let m = second.min(64);
+    points(&mut p[..n], &mut q[..m]);
+    put_points(word, &p[..n], then, &q[..m])
 }
 
 // refused NUMBER
-pub fn put_refused(number: u32, out: &mut [u8], at: usize) -> usize
-    requires { at + 64 ≤ length out.old }
-    ensures { result ≤ at + 64 }
-{
-    put_counted(b"refused ", number as u64, out, at)
+pub fn refused(number: u32) -> Line {
+    let mut line = Line::new();
+    put_counted(b"refused ", number as u64, &mut line);
+    line
 }
 
 // refused 9 CODE
-pub fn put_failed(code: u32, out: &mut [u8], at: usize) -> usize
-    requires { at + 64 ≤ length out.old }
-    ensures { result ≤ at + 64 }
-{
-    put_counted(b"refused 9 ", code as u64, out, at)
+pub fn failed(code: u32) -> Line {
+    let mut line = Line::new();
+    put_counted(b"refused 9 ", code as u64, &mut line);
+    line
 }
 
 // ended END, with the first count
-pub fn put_end(end: ExitStatus, count: usize, out: &mut [u8], at: usize) -> usize
-    requires { at + 64 ≤ length out.old }
-    ensures { result ≤ at + 64 }
+pub fn ended(end: ExitStatus, count: usize) -> Line
+    ensures { array_vec_len result ≤ 64 }
 {
-    let n = count as u64;
-    match end {
-        ExitStatus::Converged => put_counted(b"ended Converged ", n, out, at),
-        ExitStatus::NotConvergedIterations => {
-            put_counted(b"ended NotConvergedIterations ", n, out, at)
-        }
-        ExitStatus::NotConvergedOutOfTime => {
-            put_counted(b"ended NotConvergedOutOfTime ", n, out, at)
-        }
-    }
+    let mut line = Line::new();
+    let word: &[u8] = match end {
+        ExitStatus::Converged => b"ended Converged ",
+        ExitStatus::NotConvergedIterations => b"ended NotConvergedIterations ",
+        ExitStatus::NotConvergedOutOfTime => b"ended NotConvergedOutOfTime ",
+    };
+    put_counted(word, count as u64, &mut line);
+    line
 }

@@ -1,5 +1,61 @@
-// What is printed of the runs of psi and d_psi.
+// What the transcript program prints of a call of psi or of d_psi, whose questions are alike.
 #![tactic(auto)]
 
-pub mod d_psi_printing;
-pub mod psi_printing;
+use factory::alm_factory::{
+    DPsiAnswered, DPsiOutcome, PsiAnswered, PsiOutcome, PsiQuestion, Sizes,
+};
+use transcript_lines::output::{Line, alone, asked, failed, put_points, refused};
+
+// What a call of psi gave; its end has a value.
+pub fn psi_told(r: &PsiAnswered) -> Line {
+    let run = r.run;
+    match r.outcome {
+        PsiOutcome::Asked(question) => {
+            put_asked(
+                question,
+                run.state.sizes,
+                |p, q| psi_points::points(run, p, q),
+            )
+        }
+        PsiOutcome::Ended(value) => put_points(b"ended", &[value], b"", &[]),
+        PsiOutcome::Refused(number) => refused(number),
+        PsiOutcome::Failed(code) => failed(code),
+    }
+}
+
+// What a call of d_psi gave.
+pub fn d_psi_told(r: &DPsiAnswered) -> Line {
+    let run = r.run;
+    match r.outcome {
+        DPsiOutcome::Asked(question) => {
+            put_asked(
+                question,
+                run.state.sizes,
+                |p, q| d_psi_points::points(run, p, q),
+            )
+        }
+        DPsiOutcome::Ended => alone(b"ended"),
+        DPsiOutcome::Refused(number) => refused(number),
+        DPsiOutcome::Failed(code) => failed(code),
+    }
+}
+
+// A question, with the points that `points` gives: PROJECT on C has places of C, the products alone have a second point.
+fn put_asked<P: FnOnce(&mut [f64], &mut [f64]) -> u32>(
+    question: PsiQuestion,
+    sizes: Sizes,
+    points: P,
+) -> Line
+    requires { P.IsAlwaysCallable points }
+{
+    let Sizes { n, n1, n2 } = sizes;
+    match question {
+        PsiQuestion::Cost => asked(b"cost", n, b"", 0, points),
+        PsiQuestion::Gradient => asked(b"gradient", n, b"", 0, points),
+        PsiQuestion::F1 => asked(b"f1", n, b"", 0, points),
+        PsiQuestion::ProjectC => asked(b"project_c", n1, b"", 0, points),
+        PsiQuestion::Jf1t => asked(b"jf1t", n, b" d", n1, points),
+        PsiQuestion::F2 => asked(b"f2", n, b"", 0, points),
+        PsiQuestion::Jf2t => asked(b"jf2t", n, b" d", n2, points),
+    }
+}

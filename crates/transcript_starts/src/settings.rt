@@ -5,25 +5,17 @@ use line_starts::command::{InnerStart, LoopStart, PsiStart};
 use panoc_core::panoc_cache::{AkktTolerance, Settings};
 use word_values::Tolerance;
 
-// The AKKT tolerance of an inner solve.
-fn akkt(t: Tolerance) -> AkktTolerance {
-    match t {
-        Tolerance::Missing => AkktTolerance::Missing,
-        Tolerance::Set(x) => AkktTolerance::Set(x),
-        Tolerance::Other => AkktTolerance::Missing,
-    }
-}
-
 // The settings of an inner solve.
 pub fn inner_settings(s: InnerStart) -> Settings {
-    let t = s.akkt;
-    let a = akkt(t);
     Settings {
         n: s.n as usize,
         max_iter: s.m as usize,
         limited: s.limited,
         tolerance: s.tolerance,
-        akkt_tolerance: a,
+        akkt_tolerance: match s.akkt {
+            Tolerance::Set(x) => AkktTolerance::Set(x),
+            Tolerance::Missing | Tolerance::Other => AkktTolerance::Missing,
+        },
     }
 }
 

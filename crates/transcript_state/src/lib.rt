@@ -1,86 +1,65 @@
-// What the transcript program keeps from line to line.
+// What the transcript program keeps from line to line: the open run and what it is lent.
 #![tactic(auto)]
 
-ghost use Rattle.std.specs.Prelude.{◌≡◌};
-
-pub mod asides;
+ghost use Rattle.arrayvec.specs.ArrayVec.{array_vec_len};
+ghost use Rattle.std.specs.Prelude.{◌≡◌, min};
 
 use alm_core::alm_cache::AlmRun;
+use arrayvec::ArrayVec;
 use factory::alm_factory::{DPsiRun, PsiRun};
+use line_printing::put_counted;
 use panoc_core::panoc_cache::Run;
-use transcript_lines::session::Session;
+use transcript_lines::output::{Line, put_points};
 
-pub const INNER: usize = 0;
+// The run that is open; before the first start one that was refused.
+#[derive(Clone, Copy)]
+pub enum Open {
+    Inner(Run),
+    Loop(AlmRun),
+    Psi(PsiRun),
+    DPsi(DPsiRun),
+}
 
-pub const LOOP: usize = 1;
+// Places that are lent.
+pub type Lent = ArrayVec<f64, 128>;
 
-pub const PSI: usize = 2;
-
-pub const D_PSI: usize = 3;
-
-// The run that is open is that of the kind; an answer to one of another kind never comes. us places of u and xis of xi are lent. at is where what the
-// last call printed ends. over: the input is at its end.
+// The open run, and the places of u and xi; u is the result where the run is one of d_psi.
 #[derive(Drop)]
 pub struct Play {
-    pub session: Session,
-    pub kind: usize,
-    pub us: usize,
-    pub xis: usize,
-    pub at: usize,
-    pub over: bool,
-    pub inner: Run,
-    pub outer: AlmRun,
-    pub psi: PsiRun,
-    pub d_psi: DPsiRun,
+    pub open: Open,
+    pub u: Lent,
+    pub xi: Lent,
 }
 
-// The same with another inner solve, and the place behind what its call printed.
-pub fn with_inner(p: Play, run: Run, at: usize) -> Play
-    ensures { result.at ≡ at }
+// From now on so many places, as far as there is room; those past the old end hold 0.
+pub fn resize(lent: &mut Lent, places: usize)
+    ensures { array_vec_len lent.new ≡ min places 128 }
 {
-    let mut r = p;
-    r.inner = run;
-    r.at = at;
-    r
+    lent.truncate(places);
+    for _ in lent.len()..places.min(128) {
+        lent.push(0.0);
+    }
 }
 
-// The same of a loop.
-pub fn with_loop(p: Play, run: AlmRun, at: usize) -> Play
-    ensures { result.at ≡ at }
-{
-    let mut r = p;
-    r.outer = run;
-    r.at = at;
-    r
-}
+impl Play {
+    // lend: how many places are lent from now on. psi lends nothing, d_psi its result alone, the others u and xi.
+    pub fn lend(&mut self, us: usize, xis: usize) -> Line {
+        match self.open {
+            Open::Psi(_) => {}
+            Open::DPsi(_) => resize(&mut self.u, us),
+            Open::Inner(_) | Open::Loop(_) => {
+                resize(&mut self.u, us);
+                resize(&mut self.xi, xis);
+            }
+        }
+        let mut line = Line::new();
+        put_counted(b"lent ", us as u64, &mut line);
+        put_counted(b" ", xis as u64, &mut line);
+        line
+    }
 
-// The same of psi.
-pub fn with_psi(p: Play, run: PsiRun, at: usize) -> Play
-    ensures { result.at ≡ at }
-{
-    let mut r = p;
-    r.psi = run;
-    r.at = at;
-    r
-}
-
-// The same of d_psi.
-pub fn with_d_psi(p: Play, run: DPsiRun, at: usize) -> Play
-    ensures { result.at ≡ at }
-{
-    let mut r = p;
-    r.d_psi = run;
-    r.at = at;
-    r
-}
-
-// The same where another kind is open, with so many places lent.
-pub fn opens(p: Play, kind: usize, us: usize, xis: usize) -> Play
-    ensures { result.at ≡ p.at }
-{
-    let mut r = p;
-    r.kind = kind;
-    r.us = us;
-    r.xis = xis;
-    r
+    // show: the lent places as they are now
+    pub fn show(&self) -> Line {
+        put_points(b"lent", self.u.as_slice(), b" xi", self.xi.as_slice())
+    }
 }
