@@ -4,13 +4,12 @@
 
 mod outer;
 
+use outer::Places;
 use std::io;
 
 fn main(rt: HostRuntime) -> io::Result<()> {
-    let end = outer::play(&rt)?;
-    let u = end.plan;
-    let xi = end.xi;
-    penalty_by_hand::value::play(&rt, u, xi, true)?;
-    penalty_by_hand::slope::play(&rt, u, xi, true)?;
+    let Places { plan, xi } = outer::play(&rt)?;
+    penalty_by_hand::value::play(&rt, plan, xi, true)?;
+    penalty_by_hand::slope::play(&rt, plan, xi, true)?;
     Ok(())
 }

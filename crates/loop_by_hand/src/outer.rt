@@ -1,155 +1,111 @@
 // The multiplier loop; COST and GRADIENT are answered by psi and d_psi.
 use alm::alm_optimizer::answer;
-use alm_core::alm_cache::{
-    AlmAnswered, AlmOptimizerStatus, AlmOutcome, AlmQuestion, AlmRun, AlmSettings,
-};
+use alm_core::alm_cache::{AlmOptimizerStatus, AlmOutcome, AlmQuestion, AlmRun, AlmSettings};
 use alm_points::points;
 use alm_starts::start;
-use panoc_core::panoc_cache::{Question, Reply};
-use penalty_by_hand::given::{Given, on_f1, on_f2, on_project_c, short, vector};
+use factory::alm_factory::PsiQuestion;
+use panoc_core::panoc_cache::Question;
+use penalty_by_hand::given::{Given, given_to};
 use penalty_by_hand::{kiln, slope, value};
+use shown::{Bits, End, Floats};
 use std::io;
 
 // The plan and the penalty with the multiplier that are lent.
-#[derive(Drop)]
+#[derive(Clone, Copy)]
 pub struct Places {
     pub plan: [f64; 2],
     pub xi: [f64; 2],
 }
 
-// A point of two places.
-fn point(run: AlmRun) -> [f64; 2] {
-    let mut first = [0.0; 2];
-    let mut second = [0.0; 0];
+// The two points of a question, of N and M places; zeros where it has others.
+fn points_of<const N: usize, const M: usize>(run: AlmRun) -> ([f64; N], [f64; M]) {
+    let mut first = [0.0; N];
+    let mut second = [0.0; M];
     points(run, &mut first, &mut second);
-    first
+    (first, second)
 }
 
-// A point of one place.
-fn point_of_one(run: AlmRun) -> [f64; 1] {
-    let mut first = [0.0; 1];
-    let mut second = [0.0; 0];
-    points(run, &mut first, &mut second);
-    first
-}
-
-// The two points of a question, of two places each; zeros at any other.
-fn both(run: AlmRun) -> Places {
-    let mut plan = [0.0; 2];
-    let mut xi = [0.0; 2];
-    points(run, &mut plan, &mut xi);
-    Places { plan, xi }
-}
-
-fn on_cost(rt: &impl Print, at: Places) -> io::Result<Given> {
-    let u = at.plan;
-    let xi = at.xi;
-    shown::two_points(rt, b"cost", &u, b" xi", &xi)?;
-    let x = value::play(rt, u, xi, false)?;
-    Ok(short(Reply::Number(x), 0.0))
-}
-
-fn on_gradient(rt: &impl Print, at: Places) -> io::Result<Given> {
-    let u = at.plan;
-    let xi = at.xi;
-    shown::two_points(rt, b"gradient", &u, b" xi", &xi)?;
-    let v = slope::play(rt, u, xi, false)?;
-    Ok(vector(v))
-}
-
-// The direction is the residual.
-fn on_direction(rt: &impl Print, at: Places, forget: bool) -> io::Result<Given> {
-    let residual = at.plan;
-    let u = at.xi;
-    shown::direction(rt, forget, &residual, &u)?;
-    Ok(vector(residual))
-}
-
-fn on_project(rt: &impl Print, p: [f64; 2]) -> io::Result<Given> {
-    shown::line(rt, b"project", &p)?;
-    Ok(vector(kiln::project(p)))
-}
-
-fn on_time(rt: &impl Print) -> io::Result<Given> {
-    shown::word(rt, b"time\n")?;
-    Ok(short(Reply::Yes, 0.0))
-}
-
-fn on_project_y(rt: &impl Print, p: [f64; 1]) -> io::Result<Given> {
-    shown::line(rt, b"project_y", &p)?;
-    Ok(short(Reply::Vector, kiln::project_y(p[0])))
-}
-
-// The answer to a question of the inner solve, which is printed with its points.
+// The answer to a question of the inner solve, which is printed with its points. The direction is the residual.
 fn inner_given(rt: &impl Print, run: AlmRun, question: Question) -> io::Result<Given> {
-    let at = both(run);
+    let (u, xi) = points_of::<2, 2>(run);
     match question {
-        Question::Cost => on_cost(rt, at),
-        Question::Gradient => on_gradient(rt, at),
-        Question::Project => on_project(rt, point(run)),
-        Question::Direction(forget) => on_direction(rt, at, forget),
+        Question::Cost => {
+            println!(rt; "cost{} xi{}", Floats(&u), Floats(&xi))?;
+            Ok(Given::Number(value::play(rt, u, xi, false)?))
+        }
+        Question::Gradient => {
+            println!(rt; "gradient{} xi{}", Floats(&u), Floats(&xi))?;
+            Ok(Given::Two(slope::play(rt, u, xi, false)?))
+        }
+        Question::Project => {
+            let (p, _) = points_of::<2, 0>(run);
+            println!(rt; "project{}", Floats(&p))?;
+            Ok(Given::Two(kiln::project(p)))
+        }
+        Question::Direction(forget) => {
+            println!(rt;
+                "direction {}{} u{}",
+                u8::from(forget),
+                Floats(&u),
+                Floats(&xi)
+            )?;
+            Ok(Given::Two(u))
+        }
         Question::Time => on_time(rt),
     }
 }
 
+fn on_time(rt: &impl Print) -> io::Result<Given> {
+    println!(rt; "time")?;
+    Ok(Given::Yes)
+}
+
 // The answer to a question of the loop, which is printed with its points.
-fn loop_given(rt: &impl Print, run: AlmRun, question: AlmQuestion) -> io::Result<Given> {
+fn given(rt: &impl Print, run: AlmRun, question: AlmQuestion) -> io::Result<Given> {
     match question {
         AlmQuestion::Inner(inner) => inner_given(rt, run, inner),
+        AlmQuestion::Cost => inner_given(rt, run, Question::Cost),
         AlmQuestion::Time => on_time(rt),
-        AlmQuestion::ProjectY => on_project_y(rt, point_of_one(run)),
-        AlmQuestion::F1 => on_f1(rt, point(run), true),
-        AlmQuestion::ProjectC => on_project_c(rt, point_of_one(run), true),
-        AlmQuestion::F2 => on_f2(rt, point(run), true),
-        AlmQuestion::Cost => on_cost(rt, both(run)),
+        AlmQuestion::ProjectY => {
+            let (y, _) = points_of::<1, 0>(run);
+            println!(rt; "project_y{}", Floats(&y))?;
+            Ok(Given::One([kiln::project_y(y[0])]))
+        }
+        AlmQuestion::F1 => penalty_given(rt, run, PsiQuestion::F1),
+        AlmQuestion::ProjectC => penalty_given(rt, run, PsiQuestion::ProjectC),
+        AlmQuestion::F2 => penalty_given(rt, run, PsiQuestion::F2),
     }
 }
 
-// A question of the loop, answered.
-fn turn(
-    rt: &impl Print,
-    run: AlmRun,
-    question: AlmQuestion,
-    plan: &mut [f64; 2],
-    xi: &mut [f64; 2],
-) -> io::Result<AlmAnswered> {
-    let g = loop_given(rt, run, question)?;
-    let reply = g.reply;
-    let v = g.v;
-    if g.short {
-        Ok(answer(run, reply, &[v[0]], plan, xi))
-    } else {
-        Ok(answer(run, reply, &v, plan, xi))
-    }
+// The answer to one that psi asks too.
+fn penalty_given(rt: &impl Print, run: AlmRun, question: PsiQuestion) -> io::Result<Given> {
+    given_to(rt, question, true, |p, q| points(run, p, q))
 }
 
 fn print_end(rt: &impl Print, status: AlmOptimizerStatus) -> io::Result<()> {
-    let exit = status.exit_status;
-    let outer = status.num_outer_iterations;
-    let inner = status.num_inner_iterations;
-    shown::exit_status(rt, exit)?;
-    shown::whole(rt, outer.0)?;
-    shown::whole(rt, inner.0)?;
-    shown::float(rt, status.last_problem_norm_fpr)?;
-    shown::float(rt, status.cost)?;
-    shown::float(rt, status.penalty)?;
-    shown::float(rt, status.delta_y_norm)?;
-    shown::float(rt, status.f2_norm)?;
-    shown::word(rt, b"\n")
+    let outer = status.num_outer_iterations.0;
+    let inner = status.num_inner_iterations.0;
+    let numbers = [
+        status.last_problem_norm_fpr,
+        status.cost,
+        status.penalty,
+        status.delta_y_norm,
+        status.f2_norm,
+    ];
+    println!(rt;
+        "ended {} {outer} {inner}{}",
+        End(status.exit_status),
+        Floats(&numbers)
+    )
 }
 
 fn print_outcome(rt: &impl Print, outcome: AlmOutcome) -> io::Result<()> {
     match outcome {
         AlmOutcome::Asked(_) => Ok(()),
         AlmOutcome::Ended(status) => print_end(rt, status),
-        AlmOutcome::Refused(number) => shown::refused(rt, number),
-        AlmOutcome::Failed(_) => shown::refused(rt, 9),
+        AlmOutcome::Refused(number) => println!(rt; "refused {number}"),
+        AlmOutcome::Failed(_) => println!(rt; "refused 9"),
     }
-}
-
-// The lent places.
-fn print_lent(rt: &impl Print, plan: [f64; 2], xi: [f64; 2]) -> io::Result<()> {
-    shown::two_points(rt, b"lent", &plan, b" xi", &xi)
 }
 
 fn settings() -> AlmSettings {
@@ -171,21 +127,19 @@ fn settings() -> AlmSettings {
     }
 }
 
-// M is 5 and K is 3, so 3 × (35 + 56 × 5) + 1 turns are enough.
+// M is 5 and K is 3, so 3 × (35 + 56 × 5) + 1 turns are enough. What the loop left in the lent places is printed and given back.
 pub fn play(rt: &impl Print) -> io::Result<Places> {
     let mut plan = [0.5, 0.5];
     let mut xi = [2.0, 0.5];
-    let set = settings();
-    let mut last = start(set, &plan, &xi);
+    let mut last = start(settings(), &plan, &xi);
     for _ in 0..946 {
-        let outcome = last.outcome;
-        let AlmOutcome::Asked(question) = outcome else {
-            print_outcome(rt, outcome)?;
-            print_lent(rt, plan, xi)?;
-            return Ok(Places { plan, xi });
+        let AlmOutcome::Asked(question) = last.outcome else {
+            print_outcome(rt, last.outcome)?;
+            println!(rt; "lent{} xi{}", Floats(&plan), Floats(&xi))?;
+            break;
         };
-        let run = last.run;
-        last = turn(rt, run, question, &mut plan, &mut xi)?;
+        let given = given(rt, last.run, question)?;
+        last = answer(last.run, given.reply(), given.vector(), &mut plan, &mut xi);
     }
     Ok(Places { plan, xi })
 }

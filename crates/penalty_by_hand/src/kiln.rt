@@ -8,9 +8,7 @@ pub fn cost(u: [f64; 2]) -> f64 {
 }
 
 pub fn gradient(u: [f64; 2]) -> [f64; 2] {
-    let a = u[0] - 1.0;
-    let b = 2.0 * (u[1] - 2.0);
-    [a, b]
+    [u[0] - 1.0, 2.0 * (u[1] - 2.0)]
 }
 
 // F1: u0² + u1, to be at most 1.
@@ -20,8 +18,7 @@ pub fn f1(u: [f64; 2]) -> f64 {
 
 // The transposed Jacobian of F1, times d.
 pub fn jf1t(u: [f64; 2], d: f64) -> [f64; 2] {
-    let x = 2.0 * u[0] * d;
-    [x, d]
+    [2.0 * u[0] * d, d]
 }
 
 // F2: u0 - 2 × u1, to be 0.
@@ -31,30 +28,20 @@ pub fn f2(u: [f64; 2]) -> f64 {
 
 // The transposed Jacobian of F2, times d.
 pub fn jf2t(d: f64) -> [f64; 2] {
-    let y = -2.0 * d;
-    [d, y]
-}
-
-fn clamp(x: f64, low: f64, high: f64) -> f64 {
-    if x < low {
-        return low;
-    }
-    if high < x { high } else { x }
+    [d, -2.0 * d]
 }
 
 // The set U: both heaters between -2 and 2.
 pub fn project(p: [f64; 2]) -> [f64; 2] {
-    let x = clamp(p[0], -2.0, 2.0);
-    let y = clamp(p[1], -2.0, 2.0);
-    [x, y]
+    [p[0].clamp(-2.0, 2.0), p[1].clamp(-2.0, 2.0)]
 }
 
 // The set C: at most 1.
 pub fn project_c(p: f64) -> f64 {
-    clamp(p, -1000.0, 1.0)
+    p.clamp(-1000.0, 1.0)
 }
 
 // The set Y: between -10 and 10.
 pub fn project_y(p: f64) -> f64 {
-    clamp(p, -10.0, 10.0)
+    p.clamp(-10.0, 10.0)
 }
