@@ -8,6 +8,7 @@ use alm_points::points;
 use alm_starts::start;
 use panoc_core::panoc_cache::Reply;
 use values::inner_calls::reply_to;
+use values::last_number;
 
 // Settings under which a run goes on for long, with no F1 and one F2.
 fn settings(n: usize) -> AlmSettings {
@@ -43,13 +44,6 @@ fn next_reply(o: AlmOutcome) -> Reply {
     }
 }
 
-fn is_asked(o: AlmOutcome) -> u32 {
-    match o {
-        AlmOutcome::Asked(_) => 1,
-        _ => 0,
-    }
-}
-
 // A start a turn, and its points; the last number given.
 #[unsafe(no_mangle)]
 pub extern "C" fn values_loop_start(
@@ -61,13 +55,7 @@ pub extern "C" fn values_loop_start(
     q: &mut [f64],
 ) -> u32 {
     let set = settings(n);
-    let mut number = 1;
-    for i in 0..turns {
-        let a = start(set, v, xi);
-        let run = a.run;
-        number = points(run, p, q);
-    }
-    number
+    last_number(turns, || points(start(set, v, xi).run, p, q))
 }
 
 // Two answers a turn, with v and w in turn as the vector; 1 where the run still asks.
@@ -80,19 +68,12 @@ pub extern "C" fn values_loop(
     xi: &mut [f64],
     plan: &mut [f64],
 ) -> u32 {
-    let set = settings(n);
-    let first = start(set, w, xi);
-    let mut o = first.outcome;
-    let mut run = first.run;
-    for i in 0..turns {
-        let a = answer(run, next_reply(o), v, plan, xi);
-        let p = a.outcome;
-        let next = a.run;
-        let b = answer(next, next_reply(p), w, plan, xi);
-        o = b.outcome;
-        run = b.run;
+    let mut last = start(settings(n), w, xi);
+    for _ in 0..turns {
+        let next = answer(last.run, next_reply(last.outcome), v, plan, xi);
+        last = answer(next.run, next_reply(next.outcome), w, plan, xi);
     }
-    is_asked(o)
+    u32::from(matches!(last.outcome, AlmOutcome::Asked(_)))
 }
 
 // The points of a run's first question, again and again; the last number given.
@@ -105,12 +86,6 @@ pub extern "C" fn values_loop_points(
     p: &mut [f64],
     q: &mut [f64],
 ) -> u32 {
-    let set = settings(n);
-    let first = start(set, v, xi);
-    let run = first.run;
-    let mut number = 1;
-    for i in 0..turns {
-        number = points(run, p, q);
-    }
-    number
+    let run = start(settings(n), v, xi).run;
+    last_number(turns, || points(run, p, q))
 }

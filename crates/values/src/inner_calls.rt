@@ -1,4 +1,5 @@
 // The inner solve by value.
+use crate::last_number;
 use panoc::panoc_optimizer::answer;
 use panoc_core::panoc_cache::{AkktTolerance, Outcome, Question, Reply, Settings};
 use panoc_points::points;
@@ -6,13 +7,12 @@ use panoc_starts::start;
 
 // Settings under which a run goes on for long.
 fn settings(n: usize) -> Settings {
-    let akkt_tolerance = AkktTolerance::Missing;
     Settings {
         n,
         max_iter: 10000,
         limited: false,
         tolerance: 1.0e-300,
-        akkt_tolerance,
+        akkt_tolerance: AkktTolerance::Missing,
     }
 }
 
@@ -20,9 +20,7 @@ fn settings(n: usize) -> Settings {
 pub fn reply_to(q: Question) -> Reply {
     match q {
         Question::Cost => Reply::Number(1.0),
-        Question::Gradient => Reply::Vector,
-        Question::Project => Reply::Vector,
-        Question::Direction(_) => Reply::Vector,
+        Question::Gradient | Question::Project | Question::Direction(_) => Reply::Vector,
         Question::Time => Reply::Yes,
     }
 }
@@ -31,13 +29,6 @@ fn next_reply(o: Outcome) -> Reply {
     match o {
         Outcome::Asked(q) => reply_to(q),
         _ => Reply::Vector,
-    }
-}
-
-fn is_asked(o: Outcome) -> u32 {
-    match o {
-        Outcome::Asked(_) => 1,
-        _ => 0,
     }
 }
 
@@ -51,13 +42,7 @@ pub extern "C" fn values_inner_start(
     q: &mut [f64],
 ) -> u32 {
     let set = settings(n);
-    let mut number = 1;
-    for i in 0..turns {
-        let a = start(set, v);
-        let run = a.run;
-        number = points(run, p, q);
-    }
-    number
+    last_number(turns, || points(start(set, v).run, p, q))
 }
 
 // Two answers a turn, with v and w in turn as the vector; 1 where the run still asks.
@@ -69,19 +54,12 @@ pub extern "C" fn values_inner(
     w: &[f64],
     plan: &mut [f64],
 ) -> u32 {
-    let set = settings(n);
-    let first = start(set, w);
-    let mut o = first.outcome;
-    let mut run = first.run;
-    for i in 0..turns {
-        let a = answer(run, next_reply(o), v, plan);
-        let p = a.outcome;
-        let next = a.run;
-        let b = answer(next, next_reply(p), w, plan);
-        o = b.outcome;
-        run = b.run;
+    let mut last = start(settings(n), w);
+    for _ in 0..turns {
+        let next = answer(last.run, next_reply(last.outcome), v, plan);
+        last = answer(next.run, next_reply(next.outcome), w, plan);
     }
-    is_asked(o)
+    u32::from(matches!(last.outcome, Outcome::Asked(_)))
 }
 
 // The points of a run's first question, again and again; the last number given.
@@ -93,12 +71,6 @@ pub extern "C" fn values_inner_points(
     p: &mut [f64],
     q: &mut [f64],
 ) -> u32 {
-    let set = settings(n);
-    let first = start(set, v);
-    let run = first.run;
-    let mut number = 1;
-    for i in 0..turns {
-        number = points(run, p, q);
-    }
-    number
+    let run = start(settings(n), v).run;
+    last_number(turns, || points(run, p, q))
 }

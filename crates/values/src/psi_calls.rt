@@ -1,16 +1,10 @@
 // psi by value.
-use factory::alm_factory::{PsiOutcome, PsiRun, Sizes};
+use crate::last_number;
+use factory::alm_factory::{PsiOutcome, Sizes};
 use panoc_core::panoc_cache::Reply;
 use psi::answer;
 use psi_points::points;
 use psi_starts::start;
-
-fn is_asked(o: PsiOutcome) -> u32 {
-    match o {
-        PsiOutcome::Asked(_) => 1,
-        _ => 0,
-    }
-}
 
 // A start a turn, and its points; the last number given.
 #[unsafe(no_mangle)]
@@ -24,13 +18,7 @@ pub extern "C" fn values_psi_start(
     q: &mut [f64],
 ) -> u32 {
     let sizes = Sizes { n, n1, n2: 1 };
-    let mut number = 1;
-    for i in 0..turns {
-        let a = start(sizes, v, xi);
-        let run = a.run;
-        number = points(run, p, q);
-    }
-    number
+    last_number(turns, || points(start(sizes, v, xi).run, p, q))
 }
 
 // Two answers a turn, the cost of f and F1; 1 where the run still asks.
@@ -43,17 +31,13 @@ pub extern "C" fn values_psi(
     xi: &[f64],
     f1: &[f64],
 ) -> u32 {
-    let sizes = Sizes { n, n1, n2: 1 };
-    let first = start(sizes, v, xi);
-    let run = first.run;
-    let mut o = first.outcome;
-    for i in 0..turns {
-        let a = answer(run, Reply::Number(1.0), v);
-        let next = a.run;
-        let b = answer(next, Reply::Vector, f1);
-        o = b.outcome;
+    let first = start(Sizes { n, n1, n2: 1 }, v, xi);
+    let mut outcome = first.outcome;
+    for _ in 0..turns {
+        let next = answer(first.run, Reply::Number(1.0), v).run;
+        outcome = answer(next, Reply::Vector, f1).outcome;
     }
-    is_asked(o)
+    u32::from(matches!(outcome, PsiOutcome::Asked(_)))
 }
 
 // The points of a run's first question, again and again; the last number given.
@@ -67,12 +51,6 @@ pub extern "C" fn values_psi_points(
     p: &mut [f64],
     q: &mut [f64],
 ) -> u32 {
-    let sizes = Sizes { n, n1, n2: 1 };
-    let first = start(sizes, v, xi);
-    let run = first.run;
-    let mut number = 1;
-    for i in 0..turns {
-        number = points(run, p, q);
-    }
-    number
+    let run = start(Sizes { n, n1, n2: 1 }, v, xi).run;
+    last_number(turns, || points(run, p, q))
 }

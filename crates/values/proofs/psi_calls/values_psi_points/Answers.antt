@@ -1,6 +1,0 @@
--- `values::psi_calls::values_psi_points` is safe and ends. Assumes nothing.
-use Rattle.std.proofs.Common.{arith}
-use Rattle.values.proofs.psi_calls.values_psi_points.Goals as goal
-
-pub overflow_step-i : goal.overflow_step-i
-overflow_step-i c = omega (arith, c.loop-i-test.true, c.ranges.turns)
