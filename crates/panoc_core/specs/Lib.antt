@@ -4,3 +4,4 @@ pub mod Board
 pub mod Laws
 pub mod Wanted
 pub mod Calls
+pub mod Outcomes

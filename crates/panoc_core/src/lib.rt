@@ -2,5 +2,6 @@
 #![tactic(auto)]
 
 pub mod lipschitz_estimator;
+pub mod outcome;
 pub mod panoc_cache;
 pub mod refusals;
