@@ -14,18 +14,14 @@ use Rattle.model.proofs.EveryPsi.{d_psi_ends}
 use Rattle.model.specs.Refusing.{Refuses}
 use Rattle.model.proofs.Refusing.{psi_refuses, d_psi_refuses}
 use Rattle.factory.specs.declared.alm_factory.Sizes.{Sizes}
-use Rattle.factory.specs.declared.alm_factory.PsiOutcome.TheVariants as P
-use Rattle.factory.specs.declared.alm_factory.PsiRun.{PsiRun}
-use Rattle.factory.specs.declared.alm_factory.PsiAnswered.{PsiAnswered}
-use Rattle.factory.specs.declared.alm_factory.DPsiOutcome.TheVariants as D
-use Rattle.factory.specs.declared.alm_factory.DPsiRun.{DPsiRun}
-use Rattle.factory.specs.declared.alm_factory.DPsiAnswered.{DPsiAnswered}
-use Rattle.factory.specs.FactoryValues.{sizes_of, psi_said, d_psi_said}
+use Rattle.panoc_core.specs.declared.outcome.Outcome.TheVariants.{Ended, Refused}
+use Rattle.panoc_core.specs.Outcomes.{said}
+use Rattle.factory.specs.FactoryValues.{sizes_of, psi_said, d_psi_said, DPsiAnswered, DPsiRun, PsiAnswered, PsiRun}
 use Rattle.factory.specs.FactoryCalls.{PsiStarts, DPsiStarts, asking}
 use Rattle.claims.specs.History.{Call, History}
 use Rattle.claims.specs.Trace.{refusal, leads_to, left}
 use Rattle.claims.specs.Claim.{Over}
-use Rattle.claims.specs.Psi.{psi_runs, psi_number, psi_of, PsiClaim, d_psi_runs, d_psi_number, d_psi_of, DPsiClaim}
+use Rattle.claims.specs.Psi.{number, psi_runs, psi_of, PsiClaim, d_psi_runs, d_psi_of, DPsiClaim}
 use Rattle.claims.specs.Lawful.{refused_by, Gives, nothing, back, Lawful}
 use Rattle.claims.proofs.Lawful.{gives_as, begins}
 use Rattle.claims.specs.Follow.{After, Back}
@@ -36,8 +32,8 @@ beyond m z = absurd z
 
 -- ---- psi
 
-psi_numbered : (q : M.Psi) → psi_number (psi_said q) ≡ refused_by q
-unfolding psi_said refused_by
+psi_numbered : (q : M.Psi) → number (psi_said q) ≡ refused_by q
+unfolding said refused_by
 psi_numbered (ask q k continue) = refl
 psi_numbered (score half norm p) = psi_numbered p
 psi_numbered (begin p) = psi_numbered p
@@ -46,7 +42,7 @@ psi_numbered (stop (refused m)) = refl
 psi_numbered (stop (failed c)) = refl
 
 psi_gives : (s : Sizes) (q : M.Psi) → Gives psi_runs s q
-unfolding psi_said end_of
+unfolding said end_of
 psi_gives s (ask q k continue) = nothing refl (λ was. refl)
 psi_gives s (score half norm p) = gives_as psi_runs s refl refl (λ was. refl) (psi_gives s p)
 psi_gives s (begin p) = gives_as psi_runs s refl refl (λ was. refl) (psi_gives s p)
@@ -55,7 +51,7 @@ psi_gives s (stop (refused m)) = nothing refl (λ was. refl)
 psi_gives s (stop (failed c)) = nothing refl (λ was. refl)
 
 psi_lawful : Lawful psi_runs
-unfolding refusal leads_to psi_said
+unfolding refusal leads_to said
 psi_lawful =
     record {
       refuses = λ r c meets m e. let no = meets.refused m e in (no.0, no.1, refl);
@@ -65,7 +61,7 @@ psi_lawful =
       hands = λ h. refl;
     }
 
-module _ (s : Sizes) (u xi : List Float) (a : PsiAnswered) (starts : PsiStarts s u xi a) (accepts : psi_number a.outcome ≡ 0) where
+module _ (s : Sizes) (u xi : List Float) (a : PsiAnswered) (starts : PsiStarts s u xi a) (accepts : number a.outcome ≡ 0) where
   psi_same : start_psi binary64 (sizes_of s) u xi ≡ psi_of s u xi
   unfolding start_psi
   psi_same = begins psi_runs psi_lawful s _ (psi_of s u xi) a.outcome starts.outcome accepts
@@ -86,14 +82,14 @@ module _ (s : Sizes) (u xi : List Float) (a : PsiAnswered) (starts : PsiStarts s
       }
 
 -- A start that the table refuses: its number, and no run.
-pub psi_no_run : (s : Sizes) (u xi : List Float) (a : PsiAnswered) → PsiStarts s u xi a → (m : ℕ) → psi_refusal (sizes_of s) (length u) (length xi) ≡ suc m → (a.outcome ≡ P.Refused (suc m)) × Over psi_runs a.run
-unfolding start_psi psi_said
+pub psi_no_run : (s : Sizes) (u xi : List Float) (a : PsiAnswered) → PsiStarts s u xi a → (m : ℕ) → psi_refusal (sizes_of s) (length u) (length xi) ≡ suc m → (a.outcome ≡ Refused (suc m)) × Over psi_runs a.run
+unfolding start_psi said
 psi_no_run s u xi a starts m e = no_run psi_runs psi_lawful _ m (psi_of s u xi) a.outcome a.run starts.outcome starts.process e
 
 -- ---- d_psi
 
-d_psi_numbered : (q : M.DPsi) → d_psi_number (d_psi_said q) ≡ refused_by q
-unfolding d_psi_said refused_by
+d_psi_numbered : (q : M.DPsi) → number (d_psi_said q) ≡ refused_by q
+unfolding said refused_by
 d_psi_numbered (ask q k continue) = refl
 d_psi_numbered (score half norm p) = d_psi_numbered p
 d_psi_numbered (begin p) = d_psi_numbered p
@@ -102,7 +98,7 @@ d_psi_numbered (stop (refused m)) = refl
 d_psi_numbered (stop (failed c)) = refl
 
 d_psi_gives : (s : Sizes) (q : M.DPsi) → Gives d_psi_runs s q
-unfolding d_psi_said lent_after lent_at end_of
+unfolding said lent_after lent_at end_of
 d_psi_gives s (ask q k continue) = nothing refl (λ was. refl)
 d_psi_gives s (score half norm p) = gives_as d_psi_runs s refl refl (λ was. refl) (d_psi_gives s p)
 d_psi_gives s (begin p) = gives_as d_psi_runs s refl refl (λ was. refl) (d_psi_gives s p)
@@ -111,7 +107,7 @@ d_psi_gives s (stop (refused m)) = nothing refl (λ was. refl)
 d_psi_gives s (stop (failed c)) = nothing refl (λ was. refl)
 
 d_psi_lawful : Lawful d_psi_runs
-unfolding refusal leads_to d_psi_said
+unfolding refusal leads_to said
 d_psi_lawful =
     record {
       refuses = λ r c meets m e. meets.refused m e;
@@ -121,7 +117,7 @@ d_psi_lawful =
       hands = λ h. refl;
     }
 
-module _ (s : Sizes) (u xi : List Float) (a : DPsiAnswered) (starts : DPsiStarts s u xi a) (accepts : d_psi_number a.outcome ≡ 0) where
+module _ (s : Sizes) (u xi : List Float) (a : DPsiAnswered) (starts : DPsiStarts s u xi a) (accepts : number a.outcome ≡ 0) where
   d_psi_same : start_d_psi binary64 (sizes_of s) u xi ≡ d_psi_of s u xi
   unfolding start_d_psi
   d_psi_same = begins d_psi_runs d_psi_lawful s _ (d_psi_of s u xi) a.outcome starts.outcome accepts
@@ -133,7 +129,7 @@ module _ (s : Sizes) (u xi : List Float) (a : DPsiAnswered) (starts : DPsiStarts
   d_psi_refusing : Refuses (λ k. ⊥) (d_psi_of s u xi)
   d_psi_refusing = d_psi_refuses binary64 (sizes_of s) u (penalty_in xi) (multipliers_in xi)
 
-  result_one : (c : Call d_psi_runs) (before : List (Call d_psi_runs)) → (d_psi_runs.hands c.outcome ≡ true → Back d_psi_runs s (d_psi_of s u xi) scoring (λ scores g. length g ≡ s.n) [] c before) → c.outcome ≡ D.Ended → length c.wrote ≡ s.n
+  result_one : (c : Call d_psi_runs) (before : List (Call d_psi_runs)) → (d_psi_runs.hands c.outcome ≡ true → Back d_psi_runs s (d_psi_of s u xi) scoring (λ scores g. length g ≡ s.n) [] c before) → c.outcome ≡ Ended tt → length c.wrote ≡ s.n
   unfolding lent_after lent_at
   result_one c before b o = let z = b (ap d_psi_runs.hands o) in ap length z.wrote ∙ z.holds
 
@@ -149,6 +145,6 @@ module _ (s : Sizes) (u xi : List Float) (a : DPsiAnswered) (starts : DPsiStarts
       }
 
 -- A start that the table refuses: its number, and no run.
-pub d_psi_no_run : (s : Sizes) (u xi : List Float) (a : DPsiAnswered) → DPsiStarts s u xi a → (m : ℕ) → psi_refusal (sizes_of s) (length u) (length xi) ≡ suc m → (a.outcome ≡ D.Refused (suc m)) × Over d_psi_runs a.run
-unfolding start_d_psi d_psi_said
+pub d_psi_no_run : (s : Sizes) (u xi : List Float) (a : DPsiAnswered) → DPsiStarts s u xi a → (m : ℕ) → psi_refusal (sizes_of s) (length u) (length xi) ≡ suc m → (a.outcome ≡ Refused (suc m)) × Over d_psi_runs a.run
+unfolding start_d_psi said
 d_psi_no_run s u xi a starts m e = no_run d_psi_runs d_psi_lawful _ m (d_psi_of s u xi) a.outcome a.run starts.outcome starts.process e

@@ -6,32 +6,29 @@ use Rattle.model.specs.Process as M
 use Rattle.model.specs.Psi.{psi, d_psi}
 use Rattle.model.specs.Refusals.{lent_after, penalty_in, multipliers_in}
 use Rattle.factory.specs.declared.alm_factory.Sizes.{Sizes}
-use Rattle.factory.specs.declared.alm_factory.PsiOutcome.{PsiOutcome}
-use Rattle.factory.specs.declared.alm_factory.PsiOutcome.TheVariants as P
-use Rattle.factory.specs.declared.alm_factory.PsiRun.{PsiRun}
-use Rattle.factory.specs.declared.alm_factory.DPsiOutcome.{DPsiOutcome}
-use Rattle.factory.specs.declared.alm_factory.DPsiOutcome.TheVariants as D
-use Rattle.factory.specs.declared.alm_factory.DPsiRun.{DPsiRun}
-use Rattle.factory.specs.FactoryValues.{sizes_of, psi_said, d_psi_said, first_point, second_point}
+use Rattle.panoc_core.specs.declared.outcome.Outcome.{Outcome}
+use Rattle.panoc_core.specs.declared.outcome.Outcome.TheVariants.{Asked, Ended, Refused, Failed}
+use Rattle.factory.specs.FactoryValues.{sizes_of, psi_said, d_psi_said, first_point, second_point, DPsiOutcome, DPsiRun, PsiOutcome, PsiRun}
 use Rattle.factory.specs.FactoryRest.{psi_rest, d_psi_rest}
 use Rattle.factory.specs.FactoryCalls.{PsiAnswers, DPsiAnswers, result_of, asking, Points}
 use Rattle.claims.specs.History.{Runs, Call}
 use Rattle.claims.specs.Trace.{left}
 use Rattle.claims.specs.Claim.{Each, Follows}
 
+-- an end that hands something back, and the number of a refusal, 0 for none
+abbrev pub hands : {Q E : Type 0} → Outcome Q E → Bool
+hands (Asked q) = false
+hands (Ended x) = true
+hands (Refused m) = false
+hands (Failed c) = false
+
+abbrev pub number : {Q E : Type 0} → Outcome Q E → ℕ
+number (Asked q) = 0
+number (Ended x) = 0
+number (Refused m) = m
+number (Failed c) = 0
+
 -- ---- psi, whose answers lend nothing to be written
-
-abbrev pub psi_hands : PsiOutcome → Bool
-psi_hands (P.Asked q) = false
-psi_hands (P.Ended x) = true
-psi_hands (P.Refused m) = false
-psi_hands (P.Failed c) = false
-
-abbrev pub psi_number : PsiOutcome → ℕ
-psi_number (P.Asked q) = 0
-psi_number (P.Ended x) = 0
-psi_number (P.Refused m) = m
-psi_number (P.Failed c) = 0
 
 abbrev pub psi_runs : Runs M.PsiQuestion Float
 psi_runs =
@@ -46,8 +43,8 @@ psi_runs =
       right = λ s w. true;
       said = psi_said;
       written = λ s p w. w;
-      hands = psi_hands;
-      number = psi_number;
+      hands = hands;
+      number = number;
     }
 
 -- document 01's process for the sizes s, from u and xi
@@ -63,18 +60,6 @@ pub record PsiClaim (s : Sizes) (u xi : List Float) (r : PsiRun) (cs : List (Cal
 
 -- ---- d_psi, whose answers lend the result
 
-abbrev pub d_psi_hands : DPsiOutcome → Bool
-d_psi_hands (D.Asked q) = false
-d_psi_hands D.Ended = true
-d_psi_hands (D.Refused m) = false
-d_psi_hands (D.Failed c) = false
-
-abbrev pub d_psi_number : DPsiOutcome → ℕ
-d_psi_number (D.Asked q) = 0
-d_psi_number D.Ended = 0
-d_psi_number (D.Refused m) = m
-d_psi_number (D.Failed c) = 0
-
 abbrev pub d_psi_runs : Runs M.PsiQuestion (List Float)
 d_psi_runs =
     record {
@@ -88,8 +73,8 @@ d_psi_runs =
       right = λ s us. eqb (length us) s.n;
       said = d_psi_said;
       written = λ s p us. lent_after result_of p us;
-      hands = d_psi_hands;
-      number = d_psi_number;
+      hands = hands;
+      number = number;
     }
 
 abbrev pub d_psi_of : Sizes → List Float → List Float → M.DPsi
@@ -101,4 +86,4 @@ pub record DPsiClaim (s : Sizes) (u xi : List Float) (r : DPsiRun) (cs : List (C
   -- its questions have document 01's points
   pub points : (xs xs' ys ys' : List Float) → Points (d_psi_rest t) xs xs' ys ys' 0 → (q : M.PsiQuestion) → asking (left d_psi_runs s (d_psi_of s u xi) cs) ≡ some q → (xs' ≡ first_point q) × (ys' ≡ second_point q)
   -- "`d_psi` writes n numbers into a lent slice"
-  pub result : Each (λ c before. c.outcome ≡ D.Ended → length c.wrote ≡ s.n) cs
+  pub result : Each (λ c before. c.outcome ≡ Ended tt → length c.wrote ≡ s.n) cs

@@ -7,37 +7,18 @@ ghost use Rattle.matrix_operations.specs.Firsts.{firsts};
 ghost use Rattle.model.specs.Vectors.{plus_times};
 ghost use Rattle.model.specs.Refusals.{answer_refusal};
 ghost use Rattle.panoc_core.specs.Values.{reply_of, kind_of};
+ghost use Rattle.factory.specs.declared.alm_factory.DPsiBoard.{DPsiBoard};
 ghost use Rattle.factory.specs.FactoryCalls.{DPsiAnswers};
-ghost use Rattle.factory.specs.FactoryBoard.{Sound, DPsiBoard, DPsiComes, DPsiTakes, d_psi_run_of, d_psi_gave, d_psi_stepped, d_psi_kind, d_psi_f2_at, d_psi_g, d_psi_gw, d_psi_d, d_psi_ytw, d_psi_tdw, d_psi_five};
+ghost use Rattle.factory.specs.FactoryBoard.{Sound, DPsiComes, DPsiTakes, run_of, gave, stepped, d_psi_kind, d_psi_f2_at, d_psi_g, d_psi_gw, d_psi_d, d_psi_ytw, d_psi_tdw, d_psi_five};
 
 use d_psi_result::hand_out;
-use d_psi_starts::refuses;
-use factory::alm_factory::start::sound;
+use factory::alm_factory::steps::{refuses, to, wants};
+use factory::alm_factory::terms::shifted_into;
 use factory::alm_factory::{
-    DPsiAnswered, DPsiOutcome, DPsiPhase, DPsiRun, DPsiState, DPsiStepped, PsiQuestion,
+    DPsiAnswered, DPsiBoard, DPsiOutcome, DPsiPhase, DPsiRun, DPsiState, DPsiStepped, PsiQuestion,
 };
 use panoc_core::panoc_cache::Reply;
-use panoc_core::refusals::{Wanted, refusal};
-
-// On to another phase, with what the call says.
-fn to(s: DPsiState, phase: DPsiPhase, outcome: DPsiOutcome) -> DPsiStepped
-    ensures { result ≡ d_psi_stepped outcome phase s }
-{
-    let sizes = s.sizes;
-    let state = DPsiState {
-        phase,
-        sizes,
-        c: s.c,
-    };
-    DPsiStepped { outcome, state }
-}
-
-// What y is divided by: the penalty, also where it is 0.
-fn divisor(penalty: f64) -> f64
-    ensures { result ≡ penalty }
-{
-    penalty
-}
+use panoc_core::refusals::refusal;
 
 // c × the product v is added to the gradient.
 fn add_product(c: f64, v: &[f64], gradient: &mut [f64; 64], work: &mut [f64; 64], n: usize)
@@ -54,7 +35,7 @@ fn ask_f2(s: DPsiState) -> DPsiStepped
     ensures { (b : DPsiBoard) → DPsiComes s.sizes (d_psi_f2_at s b) result b }
 {
     if s.sizes.n2 == 0 {
-        to(s, DPsiPhase::Over, DPsiOutcome::Ended)
+        to(s, DPsiPhase::Over, DPsiOutcome::Ended(()))
     } else {
         to(s, DPsiPhase::F2, DPsiOutcome::Asked(PsiQuestion::F2))
     }
@@ -73,7 +54,7 @@ fn on_gradient(s: DPsiState, v: &[f64], gradient: &mut [f64; 64]) -> DPsiStepped
     }
 }
 
-// F1 at u is v.
+// F1 at u is v. y is divided by the penalty, also where that is 0.
 fn on_f1(
     s: DPsiState,
     v: &[f64],
@@ -84,10 +65,7 @@ fn on_f1(
     requires { (Sound s.sizes) × (s.phase ≡ DPsiPhase.F1) × (length v.now ≡ s.sizes.n1) }
     ensures { (b : DPsiBoard) → DPsiTakes s (d_psi_ytw y.now t.old work.old b) Reply.Vector v.now result (d_psi_ytw y.now t.new work.new b) }
 {
-    let n1 = s.sizes.n1;
-    let scale = divisor(s.c);
-    vector_copies::take_into(v, work);
-    vector_updates::plus_over_into(scale, work, y, t, n1);
+    shifted_into(s.c, v, y, t, work);
     to(
         s,
         DPsiPhase::ProjectC,
@@ -106,9 +84,8 @@ fn on_project_c(
     requires { (Sound s.sizes) × (s.phase ≡ DPsiPhase.ProjectC) × (length v.now ≡ s.sizes.n1) }
     ensures { (b : DPsiBoard) → DPsiTakes s (d_psi_tdw t.now d.old work.old b) Reply.Vector v.now result (d_psi_tdw t.now d.new work.new b) }
 {
-    let n1 = s.sizes.n1;
     vector_copies::take_into(v, work);
-    vector_differences::minus_into(t, work, d, n1);
+    vector_differences::minus_into(t, work, d, s.sizes.n1);
     to(s, DPsiPhase::Jf1t, DPsiOutcome::Asked(PsiQuestion::Jf1t))
 }
 
@@ -117,8 +94,7 @@ fn on_jf1t(s: DPsiState, v: &[f64], gradient: &mut [f64; 64], work: &mut [f64; 6
     requires { (Sound s.sizes) × (s.phase ≡ DPsiPhase.Jf1t) × (length v.now ≡ s.sizes.n) }
     ensures { (b : DPsiBoard) → DPsiTakes s (d_psi_gw gradient.old work.old b) Reply.Vector v.now result (d_psi_gw gradient.new work.new b) }
 {
-    let n = s.sizes.n;
-    add_product(s.c, v, gradient, work, n);
+    add_product(s.c, v, gradient, work, s.sizes.n);
     ask_f2(s)
 }
 
@@ -136,30 +112,8 @@ fn on_jf2t(s: DPsiState, v: &[f64], gradient: &mut [f64; 64], work: &mut [f64; 6
     requires { (Sound s.sizes) × (s.phase ≡ DPsiPhase.Jf2t) × (length v.now ≡ s.sizes.n) }
     ensures { (b : DPsiBoard) → DPsiTakes s (d_psi_gw gradient.old work.old b) Reply.Vector v.now result (d_psi_gw gradient.new work.new b) }
 {
-    let n = s.sizes.n;
-    add_product(s.c, v, gradient, work, n);
-    to(s, DPsiPhase::Over, DPsiOutcome::Ended)
-}
-
-// What the run waits for: nothing where it has ended, or where no start made it.
-fn wants(s: DPsiState) -> Wanted
-    ensures { kind_of result ≡ d_psi_kind s }
-{
-    let sizes = s.sizes;
-    if sound(sizes) {
-        let phase = s.phase;
-        match phase {
-            DPsiPhase::Gradient => Wanted::Vector(sizes.n),
-            DPsiPhase::F1 => Wanted::Vector(sizes.n1),
-            DPsiPhase::ProjectC => Wanted::Vector(sizes.n1),
-            DPsiPhase::Jf1t => Wanted::Vector(sizes.n),
-            DPsiPhase::F2 => Wanted::Vector(sizes.n2),
-            DPsiPhase::Jf2t => Wanted::Vector(sizes.n),
-            DPsiPhase::Over => Wanted::Nothing,
-        }
-    } else {
-        Wanted::Nothing
-    }
+    add_product(s.c, v, gradient, work, s.sizes.n);
+    to(s, DPsiPhase::Over, DPsiOutcome::Ended(()))
 }
 
 // A vector that was asked for.
@@ -175,8 +129,7 @@ fn on_vector(
     requires { answer_refusal (d_psi_kind s) (reply_of Reply.Vector) (length v.now) true ≡ 0 }
     ensures { (b : DPsiBoard) → DPsiTakes s (d_psi_five y.now gradient.old t.old d.old work.old b) Reply.Vector v.now result (d_psi_five y.now gradient.new t.new d.new work.new b) }
 {
-    let phase = s.phase;
-    match phase {
+    match s.phase {
         DPsiPhase::Gradient => on_gradient(s, v, gradient),
         DPsiPhase::F1 => on_f1(s, v, y, t, work),
         DPsiPhase::ProjectC => on_project_c(s, v, t, d, work),
@@ -204,9 +157,7 @@ fn step(
     match a {
         Reply::Vector => on_vector(s, v, y, gradient, t, d, work),
         Reply::Failure(code) => to(s, DPsiPhase::Over, DPsiOutcome::Failed(code)),
-        Reply::Number(_) => refuses(s, 7),
-        Reply::Yes => refuses(s, 7),
-        Reply::No => refuses(s, 7),
+        Reply::Number(_) | Reply::Yes | Reply::No => refuses(s, 7),
     }
 }
 
@@ -222,14 +173,13 @@ pub fn answer_in_place(
     d: &mut [f64; 64],
     work: &mut [f64; 64],
 ) -> DPsiStepped
-    ensures { (b : DPsiBoard) → DPsiAnswers (d_psi_run_of s (d_psi_five y.now gradient.old t.old d.old work.old b)) a v.now res.old res.new (d_psi_gave result (d_psi_five y.now gradient.new t.new d.new work.new b)) }
+    ensures { (b : DPsiBoard) → DPsiAnswers (run_of s (d_psi_five y.now gradient.old t.old d.old work.old b)) a v.now res.old res.new (gave result (d_psi_five y.now gradient.new t.new d.new work.new b)) }
 {
     let fits = res.len() == s.sizes.n;
     let number = refusal(wants(s), a, v.len(), fits);
     if number == 0 {
         let r = step(s, a, v, y, gradient, t, d, work);
-        let outcome = r.outcome;
-        hand_out(outcome, gradient, res);
+        hand_out(r.outcome, gradient, res);
         r
     } else {
         refuses(s, number)
@@ -240,24 +190,32 @@ pub fn answer_in_place(
 pub fn answer(run: DPsiRun, a: Reply, v: &[f64], res: &mut [f64]) -> DPsiAnswered
     ensures { DPsiAnswers run a v.now res.old res.new result }
 {
-    let s = run.state;
-    let u = run.u;
-    let y = run.y;
-    let mut gradient = run.gradient;
-    let mut t = run.t;
-    let mut d = run.d;
-    let mut work = run.work;
-    let r = answer_in_place(s, a, v, res, &y, &mut gradient, &mut t, &mut d, &mut work);
-    let outcome = r.outcome;
-    let state = r.state;
-    let run = DPsiRun {
-        state,
-        u,
-        y,
-        gradient,
-        t,
-        d,
-        work,
-    };
-    DPsiAnswered { outcome, run }
+    let mut gradient = run.board.gradient;
+    let mut t = run.board.t;
+    let mut d = run.board.d;
+    let mut work = run.board.work;
+    let r = answer_in_place(
+        run.state,
+        a,
+        v,
+        res,
+        &run.board.y,
+        &mut gradient,
+        &mut t,
+        &mut d,
+        &mut work,
+    );
+    DPsiAnswered {
+        outcome: r.outcome,
+        run: DPsiRun {
+            state: r.state,
+            board: DPsiBoard {
+                gradient,
+                t,
+                d,
+                work,
+                ..run.board
+            },
+        },
+    }
 }

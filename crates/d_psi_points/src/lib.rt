@@ -1,9 +1,10 @@
 // The points of the question that a run of d_psi waits with.
 #![tactic(auto)]
 
+ghost use Rattle.factory.specs.declared.alm_factory.DPsiBoard.{DPsiBoard};
 ghost use Rattle.factory.specs.FactoryRest.{d_psi_rest};
 ghost use Rattle.factory.specs.FactoryCalls.{Points};
-ghost use Rattle.factory.specs.FactoryBoard.{DPsiBoard, d_psi_run_of, d_psi_utd};
+ghost use Rattle.factory.specs.FactoryBoard.{run_of, d_psi_utd};
 
 use factory::alm_factory::points::place;
 use factory::alm_factory::start::sound;
@@ -18,22 +19,18 @@ pub fn points_in_place<'a>(
     t: &'a [f64; 64],
     d: &'a [f64; 64],
 ) -> u32
-    ensures { (b : DPsiBoard) → Points (d_psi_rest (d_psi_run_of s (d_psi_utd u.now t.now d.now b))) first.old first.new second.old second.new result }
+    ensures { (b : DPsiBoard) → Points (d_psi_rest (run_of s (d_psi_utd u.now t.now d.now b))) first.old first.new second.old second.new result }
 {
-    let sizes = s.sizes;
-    if sound(sizes) {
-        let phase = s.phase;
-        match phase {
-            DPsiPhase::Gradient => place(u, sizes.n, d, 0, first, second),
-            DPsiPhase::F1 => place(u, sizes.n, d, 0, first, second),
-            DPsiPhase::ProjectC => place(t, sizes.n1, d, 0, first, second),
-            DPsiPhase::Jf1t => place(u, sizes.n, d, sizes.n1, first, second),
-            DPsiPhase::F2 => place(u, sizes.n, d, 0, first, second),
-            DPsiPhase::Jf2t => place(u, sizes.n, d, sizes.n2, first, second),
-            DPsiPhase::Over => 6,
-        }
-    } else {
-        6
+    if !sound(s.sizes) {
+        return 6;
+    }
+    let n = s.sizes.n;
+    match s.phase {
+        DPsiPhase::Gradient | DPsiPhase::F1 | DPsiPhase::F2 => place(u, n, d, 0, first, second),
+        DPsiPhase::ProjectC => place(t, s.sizes.n1, d, 0, first, second),
+        DPsiPhase::Jf1t => place(u, n, d, s.sizes.n1, first, second),
+        DPsiPhase::Jf2t => place(u, n, d, s.sizes.n2, first, second),
+        DPsiPhase::Over => 6,
     }
 }
 
@@ -41,6 +38,6 @@ pub fn points_in_place<'a>(
 pub fn points(run: DPsiRun, first: &mut [f64], second: &mut [f64]) -> u32
     ensures { Points (d_psi_rest run) first.old first.new second.old second.new result }
 {
-    let s = run.state;
-    points_in_place(s, first, second, &run.u, &run.t, &run.d)
+    let b = &run.board;
+    points_in_place(run.state, first, second, &b.u, &b.t, &b.d)
 }

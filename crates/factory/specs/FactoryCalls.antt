@@ -3,26 +3,40 @@ use Rattle.std.specs.Prelude.{ℕ, suc, ◌≡◌, true, cond, ◌&&◌, List, e
 use Rattle.std.proofs.Math.Option.{Option, none, some}
 use Rattle.std.specs.Float.{binary64}
 use Rattle.model.specs.Process.{Process, ask, score, begin, stop, PsiQuestion, Psi, DPsi}
-use Rattle.model.specs.Refusals.{wanted, answer_refusal, accept, remains, lent_after, start_psi, start_d_psi}
+use Rattle.model.specs.Refusals.{wanted, answer_refusal, accept, remains, lent_after, or_refused, psi_refusal, penalty_in, multipliers_in, start_psi, start_d_psi}
 use Rattle.panoc_core.specs.Values.{reply_of}
 use Rattle.panoc_core.specs.declared.panoc_cache.Reply.{Reply}
 use Rattle.factory.specs.declared.alm_factory.Sizes.{Sizes}
-use Rattle.factory.specs.declared.alm_factory.PsiOutcome.TheVariants as Psi
-use Rattle.factory.specs.declared.alm_factory.PsiRun.{PsiRun}
-use Rattle.factory.specs.declared.alm_factory.PsiAnswered.{PsiAnswered}
-use Rattle.factory.specs.declared.alm_factory.DPsiOutcome.TheVariants as DPsi
-use Rattle.factory.specs.declared.alm_factory.DPsiRun.{DPsiRun}
-use Rattle.factory.specs.declared.alm_factory.DPsiAnswered.{DPsiAnswered}
-use Rattle.factory.specs.FactoryValues.{sizes_of, psi_said, d_psi_said, first_point, second_point}
-use Rattle.factory.specs.FactoryRest.{psi_rest, d_psi_rest}
+use Rattle.factory.specs.declared.alm_factory.State.{State}
+use Rattle.factory.specs.declared.alm_factory.Run.{Run}
+use Rattle.factory.specs.declared.alm_factory.PsiQuestion as C
+use Rattle.panoc_core.specs.declared.outcome.Outcome.{Outcome}
+use Rattle.panoc_core.specs.declared.outcome.Outcome.TheVariants.{Asked, Refused}
+use Rattle.panoc_core.specs.declared.outcome.Answered.{Answered}
+use Rattle.panoc_core.specs.Outcomes.{said}
+use Rattle.factory.specs.FactoryValues.{sizes_of, question_of, first_point, second_point, PsiRun, PsiAnswered, psi_tells, DPsiRun, DPsiAnswered, d_psi_tells, d_psi_said}
+use Rattle.factory.specs.FactoryRest.{rest, psi_resume, psi_rest, d_psi_resume, d_psi_rest}
+
+-- a call has come to the process p, with the sizes s: tells is what it says of what is handed back, resume the process of a run at a phase
+pub record Reaches {P V B H : Type 0} (tells : H → V) (resume : Run (State P V) B → P → Process PsiQuestion H) (s : Sizes) (p : Process PsiQuestion H)
+    (r : Answered (Outcome C.PsiQuestion V) (Run (State P V) B)) : Type 0 where
+  pub sizes : r.run.state.sizes ≡ s
+  pub outcome : r.outcome ≡ said question_of tells p
+  pub process : rest resume r.run ≡ remains p
+
+-- a process that asks first
+abbrev pub Asks : {H V : Type 0} → (H → V) → C.PsiQuestion → Process PsiQuestion H → Type 0
+Asks tells q p = (said question_of tells p ≡ Asked q) × (remains p ≡ p)
+
+-- a start at u and xi: begun is the process of sizes, u, c and y that it begins
+abbrev pub Starts : {P V B H : Type 0} → (H → V) → (Run (State P V) B → P → Process PsiQuestion H) → (Sizes → List Float → Float → List Float → Process PsiQuestion H) → Sizes → List Float → List Float
+    → Answered (Outcome C.PsiQuestion V) (Run (State P V) B) → Type 0
+Starts tells resume begun s u xi = Reaches tells resume s (or_refused (psi_refusal (sizes_of s) (length u) (length xi)) (begun s u (penalty_in xi) (multipliers_in xi)))
 
 -- ---- psi, whose answers lend no place
 
--- a call has come to the process p, with the sizes s
-pub record PsiReaches (s : Sizes) (p : Psi) (r : PsiAnswered) : Type 0 where
-  pub sizes : r.run.state.sizes ≡ s
-  pub outcome : r.outcome ≡ psi_said p
-  pub process : psi_rest r.run ≡ remains p
+abbrev pub PsiReaches : Sizes → Psi → PsiAnswered → Type 0
+PsiReaches = Reaches psi_tells psi_resume
 
 -- start: the process that document 01 begins at u and xi, or its refusal
 abbrev pub PsiStarts : Sizes → List Float → List Float → PsiAnswered → Type 0
@@ -34,7 +48,7 @@ psi_answer_refusal run a vs = answer_refusal (wanted (psi_rest run)) (reply_of a
 
 -- answer: where the table refuses, its number and the run unchanged; else what the process comes to
 pub record PsiAnswers (run : PsiRun) (a : Reply) (v : List Float) (r : PsiAnswered) : Type 0 where
-  pub refused : (k : ℕ) → psi_answer_refusal run a (length v) ≡ suc k → (r.outcome ≡ Psi.Refused (suc k)) × (r.run ≡ run)
+  pub refused : (k : ℕ) → psi_answer_refusal run a (length v) ≡ suc k → (r.outcome ≡ Refused (suc k)) × (r.run ≡ run)
   pub accepted : psi_answer_refusal run a (length v) ≡ 0 → PsiReaches run.state.sizes (accept (psi_rest run) (reply_of a) v) r
 
 -- ---- d_psi, whose answers lend the result
@@ -51,10 +65,8 @@ pub record DPsiReaches (s : Sizes) (p : DPsi) (us ws : List Float) (r : DPsiAnsw
   pub wrote : ws ≡ lent_after result_of p us
 
 -- a start has come to the process p, with the sizes s; it lends nothing to be written
-pub record DPsiBegins (s : Sizes) (p : DPsi) (r : DPsiAnswered) : Type 0 where
-  pub sizes : r.run.state.sizes ≡ s
-  pub outcome : r.outcome ≡ d_psi_said p
-  pub process : d_psi_rest r.run ≡ remains p
+abbrev pub DPsiBegins : Sizes → DPsi → DPsiAnswered → Type 0
+DPsiBegins = Reaches d_psi_tells d_psi_resume
 
 -- start: the process that document 01 begins at u and xi, or its refusal
 abbrev pub DPsiStarts : Sizes → List Float → List Float → DPsiAnswered → Type 0
@@ -66,7 +78,7 @@ d_psi_answer_refusal run a vs us = answer_refusal (wanted (d_psi_rest run)) (rep
 
 -- answer: where the table refuses, its number, the run and the lent result unchanged; else what the process comes to
 pub record DPsiAnswers (run : DPsiRun) (a : Reply) (v us ws : List Float) (r : DPsiAnswered) : Type 0 where
-  pub refused : (k : ℕ) → d_psi_answer_refusal run a (length v) (length us) ≡ suc k → (r.outcome ≡ DPsi.Refused (suc k)) × (r.run ≡ run) × (ws ≡ us)
+  pub refused : (k : ℕ) → d_psi_answer_refusal run a (length v) (length us) ≡ suc k → (r.outcome ≡ Refused (suc k)) × (r.run ≡ run) × (ws ≡ us)
   pub accepted : d_psi_answer_refusal run a (length v) (length us) ≡ 0 → DPsiReaches run.state.sizes (accept (d_psi_rest run) (reply_of a) v) us ws r
 
 -- ---- the points of both

@@ -1,15 +1,20 @@
 -- What the enums and records of psi and d_psi stand for in document 01's terms, and the other way round. Definitions only.
 use Rattle.std.specs.Prelude.{List, [], Float}
-use Rattle.model.specs.Process.{End, handed, refused, failed, ask, score, begin, stop}
 use Rattle.model.specs.Process as M
 use Rattle.model.specs.Psi as S
 use Rattle.factory.specs.declared.alm_factory.Sizes.{Sizes}
 use Rattle.factory.specs.declared.alm_factory.PsiQuestion.{PsiQuestion}
 use Rattle.factory.specs.declared.alm_factory.PsiQuestion.TheVariants.{Cost, Gradient, F1, ProjectC, Jf1t, F2, Jf2t}
-use Rattle.factory.specs.declared.alm_factory.PsiOutcome.{PsiOutcome}
-use Rattle.factory.specs.declared.alm_factory.PsiOutcome.TheVariants as Psi
-use Rattle.factory.specs.declared.alm_factory.DPsiOutcome.{DPsiOutcome}
-use Rattle.factory.specs.declared.alm_factory.DPsiOutcome.TheVariants as DPsi
+use Rattle.factory.specs.declared.alm_factory.State.{State}
+use Rattle.factory.specs.declared.alm_factory.Run.{Run}
+use Rattle.factory.specs.declared.alm_factory.PsiPhase.{PsiPhase}
+use Rattle.factory.specs.declared.alm_factory.PsiBoard.{PsiBoard}
+use Rattle.factory.specs.declared.alm_factory.DPsiPhase.{DPsiPhase}
+use Rattle.factory.specs.declared.alm_factory.DPsiBoard.{DPsiBoard}
+use Rattle.panoc_core.specs.declared.outcome.Outcome.{Outcome}
+use Rattle.panoc_core.specs.declared.outcome.Stepped.{Stepped}
+use Rattle.panoc_core.specs.declared.outcome.Answered.{Answered}
+use Rattle.panoc_core.specs.Outcomes.{said}
 
 -- n, n1 and n2
 abbrev pub sizes_of : Sizes → S.Sizes
@@ -44,28 +49,50 @@ second_point (M.PsiQuestion.jf1t u d) = d
 second_point (M.PsiQuestion.f2 u) = []
 second_point (M.PsiQuestion.jf2t u d) = d
 
--- ---- an end, and what a call says of the process that it has come to
+-- ---- the types of the code by the names that they have there
+
+abbrev pub PsiOutcome : Type 0
+PsiOutcome = Outcome PsiQuestion Float
+
+abbrev pub PsiState : Type 0
+PsiState = State PsiPhase Float
+
+abbrev pub PsiStepped : Type 0
+PsiStepped = Stepped PsiOutcome PsiState
+
+abbrev pub PsiRun : Type 0
+PsiRun = Run PsiState PsiBoard
+
+abbrev pub PsiAnswered : Type 0
+PsiAnswered = Answered PsiOutcome PsiRun
+
+abbrev pub DPsiOutcome : Type 0
+DPsiOutcome = Outcome PsiQuestion (Unit {0})
+
+abbrev pub DPsiState : Type 0
+DPsiState = State DPsiPhase (Unit {0})
+
+abbrev pub DPsiStepped : Type 0
+DPsiStepped = Stepped DPsiOutcome DPsiState
+
+abbrev pub DPsiRun : Type 0
+DPsiRun = Run DPsiState DPsiBoard
+
+abbrev pub DPsiAnswered : Type 0
+DPsiAnswered = Answered DPsiOutcome DPsiRun
+
+-- ---- what a call says of the process that it has come to
 
 -- psi hands a number back
-abbrev pub psi_ended : End Float → PsiOutcome
-psi_ended (handed x) = Psi.Ended x
-psi_ended (refused k) = Psi.Refused k
-psi_ended (failed c) = Psi.Failed c
+abbrev pub psi_tells : Float → Float
+psi_tells x = x
 
-unfoldable pub psi_said : M.Psi → PsiOutcome
-psi_said (ask q k continue) = Psi.Asked (question_of q)
-psi_said (score half norm p) = psi_said p
-psi_said (begin p) = psi_said p
-psi_said (stop e) = psi_ended e
+abbrev pub psi_said : M.Psi → PsiOutcome
+psi_said = said question_of psi_tells
 
 -- the numbers of d_psi stand in the lent slice
-abbrev pub d_psi_ended : End (List Float) → DPsiOutcome
-d_psi_ended (handed g) = DPsi.Ended
-d_psi_ended (refused k) = DPsi.Refused k
-d_psi_ended (failed c) = DPsi.Failed c
+abbrev pub d_psi_tells : List Float → Unit {0}
+d_psi_tells g = tt
 
-unfoldable pub d_psi_said : M.DPsi → DPsiOutcome
-d_psi_said (ask q k continue) = DPsi.Asked (question_of q)
-d_psi_said (score half norm p) = d_psi_said p
-d_psi_said (begin p) = d_psi_said p
-d_psi_said (stop e) = d_psi_ended e
+abbrev pub d_psi_said : M.DPsi → DPsiOutcome
+d_psi_said = said question_of d_psi_tells

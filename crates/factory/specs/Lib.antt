@@ -3,5 +3,6 @@ pub mod FactoryRest
 pub mod FactoryCalls
 pub mod FactoryBoard
 pub mod FactoryLaws
-pub mod PsiRest
-pub mod DPsiRest
+pub mod FactoryRuns
+pub mod FactoryPenalties
+pub mod FactoryStarts

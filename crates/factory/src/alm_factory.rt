@@ -1,9 +1,14 @@
 // The records of psi and d_psi, the penalty functions of the multiplier loop, as runs that ask and answer.
+use panoc_core::outcome::{Answered, Outcome, Stepped};
+
+pub mod penalty;
 pub mod points;
 pub mod start;
+pub mod steps;
+pub mod terms;
 
 // n, n1 and n2: the places of u, of F1 and of F2.
-#[derive(Clone, Copy)]
+#[derive(Clone, Copy, PartialEq, Eq, Debug)]
 pub struct Sizes {
     pub n: usize,
     pub n1: usize,
@@ -11,7 +16,7 @@ pub struct Sizes {
 }
 
 // A question of psi or d_psi: cost and gradient of f, F1, the projection on C, F2, and the transposed Jacobian products.
-#[derive(Clone, Copy)]
+#[derive(Clone, Copy, PartialEq, Eq, Debug)]
 pub enum PsiQuestion {
     Cost,
     Gradient,
@@ -22,8 +27,24 @@ pub enum PsiQuestion {
     Jf2t,
 }
 
-// Which question a run of psi waits for. Over: it has ended.
+// The small part of a run: phase says which question it waits for, c is the penalty, value what the run has so far of what it ends with.
 #[derive(Clone, Copy)]
+pub struct State<P, V> {
+    pub phase: P,
+    pub sizes: Sizes,
+    pub c: f64,
+    pub value: V,
+}
+
+// A run by value: its small part and its vectors.
+#[derive(Clone, Copy)]
+pub struct Run<S, B> {
+    pub state: S,
+    pub board: B,
+}
+
+// Which question a run of psi waits for. Over: it has ended.
+#[derive(Clone, Copy, PartialEq, Eq, Debug)]
 pub enum PsiPhase {
     Cost,
     F1,
@@ -32,49 +53,28 @@ pub enum PsiPhase {
     Over,
 }
 
-// What a call of psi gives: the next question, the end with its number, a refusal by its number, or the host's failure by its code.
+// The vectors of a run of psi: t is F1 + y / max(c, 1), work a copy of an answer.
 #[derive(Clone, Copy)]
-pub enum PsiOutcome {
-    Asked(PsiQuestion),
-    Ended(f64),
-    Refused(u32),
-    Failed(u32),
-}
-
-// The small part of a run of psi: c is the penalty, value is psi so far.
-#[derive(Clone, Copy)]
-pub struct PsiState {
-    pub phase: PsiPhase,
-    pub sizes: Sizes,
-    pub c: f64,
-    pub value: f64,
-}
-
-// What a call of psi in place gives: the vectors are where they were lent.
-#[derive(Clone, Copy)]
-pub struct PsiStepped {
-    pub outcome: PsiOutcome,
-    pub state: PsiState,
-}
-
-// A run of psi by value. t is F1 + y / max(c, 1), work a copy of an answer.
-#[derive(Clone, Copy)]
-pub struct PsiRun {
-    pub state: PsiState,
+pub struct PsiBoard {
     pub u: [f64; 64],
     pub y: [f64; 64],
     pub t: [f64; 64],
     pub work: [f64; 64],
 }
 
-#[derive(Drop)]
-pub struct PsiAnswered {
-    pub outcome: PsiOutcome,
-    pub run: PsiRun,
-}
+// psi ends with its number.
+pub type PsiOutcome = Outcome<PsiQuestion, f64>;
+
+pub type PsiState = State<PsiPhase, f64>;
+
+pub type PsiStepped = Stepped<PsiOutcome, PsiState>;
+
+pub type PsiRun = Run<PsiState, PsiBoard>;
+
+pub type PsiAnswered = Answered<PsiOutcome, PsiRun>;
 
 // Which question a run of d_psi waits for. Over: it has ended.
-#[derive(Clone, Copy)]
+#[derive(Clone, Copy, PartialEq, Eq, Debug)]
 pub enum DPsiPhase {
     Gradient,
     F1,
@@ -85,34 +85,9 @@ pub enum DPsiPhase {
     Over,
 }
 
-// What a call of d_psi gives: at the end its numbers are in the lent slice.
+// The vectors of a run of d_psi: gradient is d_psi so far, t is F1 + y / c, d the vector of a product, work a copy of an answer.
 #[derive(Clone, Copy)]
-pub enum DPsiOutcome {
-    Asked(PsiQuestion),
-    Ended,
-    Refused(u32),
-    Failed(u32),
-}
-
-// The small part of a run of d_psi: c is the penalty.
-#[derive(Clone, Copy)]
-pub struct DPsiState {
-    pub phase: DPsiPhase,
-    pub sizes: Sizes,
-    pub c: f64,
-}
-
-// What a call of d_psi in place gives: the vectors are where they were lent.
-#[derive(Clone, Copy)]
-pub struct DPsiStepped {
-    pub outcome: DPsiOutcome,
-    pub state: DPsiState,
-}
-
-// A run of d_psi by value. gradient is d_psi so far, t is F1 + y / c, d the vector of a product, work a copy of an answer.
-#[derive(Clone, Copy)]
-pub struct DPsiRun {
-    pub state: DPsiState,
+pub struct DPsiBoard {
     pub u: [f64; 64],
     pub y: [f64; 64],
     pub gradient: [f64; 64],
@@ -121,8 +96,13 @@ pub struct DPsiRun {
     pub work: [f64; 64],
 }
 
-#[derive(Drop)]
-pub struct DPsiAnswered {
-    pub outcome: DPsiOutcome,
-    pub run: DPsiRun,
-}
+// d_psi ends with nothing to say: its numbers are in the lent slice.
+pub type DPsiOutcome = Outcome<PsiQuestion, ()>;
+
+pub type DPsiState = State<DPsiPhase, ()>;
+
+pub type DPsiStepped = Stepped<DPsiOutcome, DPsiState>;
+
+pub type DPsiRun = Run<DPsiState, DPsiBoard>;
+
+pub type DPsiAnswered = Answered<DPsiOutcome, DPsiRun>;

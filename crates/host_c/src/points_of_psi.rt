@@ -1,5 +1,6 @@
 // The point of a question of psi, the penalty function, for C, as the crate host_points has those of the inner solve.
-ghost use Rattle.factory.specs.FactoryBoard.{PsiBoard, psi_run_of, psi_ut};
+ghost use Rattle.factory.specs.declared.alm_factory.PsiBoard.{PsiBoard};
+ghost use Rattle.factory.specs.FactoryBoard.{run_of, psi_ut};
 ghost use Rattle.factory.specs.FactoryCalls.{Points};
 ghost use Rattle.factory.specs.FactoryRest.{psi_rest};
 ghost use Rattle.psi_image.specs.PsiImage.{psi_of};
@@ -15,7 +16,7 @@ pub extern "C" fn pozkerrin_psi_points<'a>(
     u: &'a [f64; 64],
     t: &'a [f64; 64],
 ) -> u32
-    ensures { (b : PsiBoard) → Points (psi_rest (psi_run_of (psi_of w.now k.now f.now) (psi_ut u.now t.now b))) first.old first.new second.old second.new result }
+    ensures { (b : PsiBoard) → Points (psi_rest (run_of (psi_of w.now k.now f.now) (psi_ut u.now t.now b))) first.old first.new second.old second.new result }
 {
     host_psi_points::pozkerrin_psi_points(w, k, f, first, second, u, t)
 }

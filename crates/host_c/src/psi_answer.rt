@@ -1,5 +1,6 @@
 // An answer to psi, the penalty function, for C, as the crate host has it for the inner solve.
-ghost use Rattle.factory.specs.FactoryBoard.{PsiBoard, psi_run_of, psi_gave, psi_ytw};
+ghost use Rattle.factory.specs.declared.alm_factory.PsiBoard.{PsiBoard};
+ghost use Rattle.factory.specs.FactoryBoard.{run_of, gave, psi_ytw};
 ghost use Rattle.factory.specs.FactoryCalls.{PsiAnswers};
 ghost use Rattle.psi_image.specs.PsiImage.{psi_of, psi_step_of};
 ghost use Rattle.psi_kinds.specs.PsiKinds.{reply_of};
@@ -18,7 +19,7 @@ pub extern "C" fn pozkerrin_psi_answer(
     t: &mut [f64; 64],
     work: &mut [f64; 64],
 ) -> u32
-    ensures { (b : PsiBoard) → PsiAnswers (psi_run_of (psi_of w.old k.old f.old) (psi_ytw y.now t.old work.old b)) (reply_of kind x code) v.now (psi_gave (psi_step_of result w.new k.new f.new) (psi_ytw y.now t.new work.new b)) }
+    ensures { (b : PsiBoard) → PsiAnswers (run_of (psi_of w.old k.old f.old) (psi_ytw y.now t.old work.old b)) (reply_of kind x code) v.now (gave (psi_step_of result w.new k.new f.new) (psi_ytw y.now t.new work.new b)) }
 {
     host_psi::pozkerrin_psi_answer(w, k, f, kind, x, code, v, y, t, work)
 }

@@ -1,5 +1,6 @@
 // The start of psi, the penalty function, for C, as the crate host_start has that of the inner solve.
-ghost use Rattle.factory.specs.FactoryBoard.{PsiBoard, psi_gave, psi_uy};
+ghost use Rattle.factory.specs.declared.alm_factory.PsiBoard.{PsiBoard};
+ghost use Rattle.factory.specs.FactoryBoard.{gave, psi_uy};
 ghost use Rattle.factory.specs.FactoryCalls.{PsiStarts};
 ghost use Rattle.psi_image.specs.PsiImage.{psi_step_of};
 
@@ -17,7 +18,7 @@ pub extern "C" fn pozkerrin_psi_start(
     u: &mut [f64; 64],
     y: &mut [f64; 64],
 ) -> u32
-    ensures { (b : PsiBoard) → PsiStarts (record { n = n; n1 = n1; n2 = n2 }) at.now xi.now (psi_gave (psi_step_of result w.new k.new f.new) (psi_uy u.new y.new b)) }
+    ensures { (b : PsiBoard) → PsiStarts (record { n = n; n1 = n1; n2 = n2 }) at.now xi.now (gave (psi_step_of result w.new k.new f.new) (psi_uy u.new y.new b)) }
 {
     host_psi_start::pozkerrin_psi_start(w, k, f, n, n1, n2, at, xi, u, y)
 }

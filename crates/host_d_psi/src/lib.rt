@@ -1,7 +1,8 @@
 // An answer to d_psi, the gradient of psi, for C, as the crate host has it for the inner solve.
 #![tactic(auto)]
 
-ghost use Rattle.factory.specs.FactoryBoard.{DPsiBoard, d_psi_run_of, d_psi_gave, d_psi_five};
+ghost use Rattle.factory.specs.declared.alm_factory.DPsiBoard.{DPsiBoard};
+ghost use Rattle.factory.specs.FactoryBoard.{run_of, gave, d_psi_five};
 ghost use Rattle.factory.specs.FactoryCalls.{DPsiAnswers};
 ghost use Rattle.psi_image.specs.PsiImage.{d_psi_of, d_psi_step_of};
 ghost use Rattle.psi_kinds.specs.PsiKinds.{reply_of};
@@ -27,13 +28,11 @@ pub extern "C" fn pozkerrin_d_psi_answer(
     d: &mut [f64; 64],
     work: &mut [f64; 64],
 ) -> u32
-    ensures { (b : DPsiBoard) → DPsiAnswers (d_psi_run_of (d_psi_of w.old k.old f.old) (d_psi_five y.now gradient.old t.old d.old work.old b)) (reply_of kind x code) v.now res.old res.new (d_psi_gave (d_psi_step_of result w.new k.new f.new) (d_psi_five y.now gradient.new t.new d.new work.new b)) }
+    ensures { (b : DPsiBoard) → DPsiAnswers (run_of (d_psi_of w.old k.old f.old) (d_psi_five y.now gradient.old t.old d.old work.old b)) (reply_of kind x code) v.now res.old res.new (gave (d_psi_step_of result w.new k.new f.new) (d_psi_five y.now gradient.new t.new d.new work.new b)) }
 {
     let s = d_psi_of(w, k, f);
     let a = reply_of(kind, x, code);
     let r = answer_in_place(s, a, v, res, y, gradient, t, d, work);
-    let state = r.state;
-    let outcome = r.outcome;
-    keep_d_psi(state, w, k, f);
-    tell_d_psi(outcome, w)
+    keep_d_psi(r.state, w, k, f);
+    tell_d_psi(r.outcome, w)
 }

@@ -3,10 +3,11 @@ use Prim.Native.Nat.{ℕ}
 use mathlib.Core.Path.{◌≡◌, subst}
 use mathlib.Core.List.{List}
 use lib.Ieee.{Float}
-use Rattle.factory.specs.declared.alm_factory.DPsiState.{DPsiState}
-use Rattle.factory.specs.FactoryBoard.{DPsiBoard, d_psi_run_of}
+use Rattle.factory.specs.declared.alm_factory.DPsiBoard.{DPsiBoard}
+use Rattle.factory.specs.FactoryValues.{DPsiState}
+use Rattle.factory.specs.FactoryBoard.{run_of}
 use Rattle.factory.specs.FactoryCalls.{Points}
 use Rattle.factory.specs.FactoryRest.{d_psi_rest}
 
-pub d_psi_points : (s z : DPsiState) (b : DPsiBoard) (xs xs' ys ys' : List Float) (m : ℕ) → s ≡ z → Points (d_psi_rest (d_psi_run_of s b)) xs xs' ys ys' m → Points (d_psi_rest (d_psi_run_of z b)) xs xs' ys ys' m
-d_psi_points s z b xs xs' ys ys' m e g = subst (λ (q : DPsiState). Points (d_psi_rest (d_psi_run_of q b)) xs xs' ys ys' m) e g
+pub d_psi_points : (s z : DPsiState) (b : DPsiBoard) (xs xs' ys ys' : List Float) (m : ℕ) → s ≡ z → Points (d_psi_rest (run_of s b)) xs xs' ys ys' m → Points (d_psi_rest (run_of z b)) xs xs' ys ys' m
+d_psi_points s z b xs xs' ys ys' m e g = subst (λ (q : DPsiState). Points (d_psi_rest (run_of q b)) xs xs' ys ys' m) e g

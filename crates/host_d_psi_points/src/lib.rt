@@ -1,7 +1,8 @@
 // The points of a question of d_psi, the gradient of psi, for C, as the crate host_points has those of the inner solve.
 #![tactic(auto)]
 
-ghost use Rattle.factory.specs.FactoryBoard.{DPsiBoard, d_psi_run_of, d_psi_utd};
+ghost use Rattle.factory.specs.declared.alm_factory.DPsiBoard.{DPsiBoard};
+ghost use Rattle.factory.specs.FactoryBoard.{run_of, d_psi_utd};
 ghost use Rattle.factory.specs.FactoryCalls.{Points};
 ghost use Rattle.factory.specs.FactoryRest.{d_psi_rest};
 ghost use Rattle.psi_image.specs.PsiImage.{d_psi_of};
@@ -21,8 +22,7 @@ pub extern "C" fn pozkerrin_d_psi_points<'a>(
     t: &'a [f64; 64],
     d: &'a [f64; 64],
 ) -> u32
-    ensures { (b : DPsiBoard) → Points (d_psi_rest (d_psi_run_of (d_psi_of w.now k.now f.now) (d_psi_utd u.now t.now d.now b))) first.old first.new second.old second.new result }
+    ensures { (b : DPsiBoard) → Points (d_psi_rest (run_of (d_psi_of w.now k.now f.now) (d_psi_utd u.now t.now d.now b))) first.old first.new second.old second.new result }
 {
-    let s = d_psi_of(w, k, f);
-    points_in_place(s, first, second, u, t, d)
+    points_in_place(d_psi_of(w, k, f), first, second, u, t, d)
 }

@@ -1,7 +1,8 @@
 // The start of d_psi, the gradient of psi, for C, as the crate host_start has that of the inner solve.
 #![tactic(auto)]
 
-ghost use Rattle.factory.specs.FactoryBoard.{DPsiBoard, d_psi_gave, d_psi_uy};
+ghost use Rattle.factory.specs.declared.alm_factory.DPsiBoard.{DPsiBoard};
+ghost use Rattle.factory.specs.FactoryBoard.{gave, d_psi_uy};
 ghost use Rattle.factory.specs.FactoryCalls.{DPsiStarts};
 ghost use Rattle.psi_image.specs.PsiImage.{d_psi_step_of};
 
@@ -23,12 +24,10 @@ pub extern "C" fn pozkerrin_d_psi_start(
     u: &mut [f64; 64],
     y: &mut [f64; 64],
 ) -> u32
-    ensures { (b : DPsiBoard) → DPsiStarts (record { n = n; n1 = n1; n2 = n2 }) at.now xi.now (d_psi_gave (d_psi_step_of result w.new k.new f.new) (d_psi_uy u.new y.new b)) }
+    ensures { (b : DPsiBoard) → DPsiStarts (record { n = n; n1 = n1; n2 = n2 }) at.now xi.now (gave (d_psi_step_of result w.new k.new f.new) (d_psi_uy u.new y.new b)) }
 {
     let sizes = Sizes { n, n1, n2 };
     let r = start_in_place(sizes, at, xi, u, y);
-    let state = r.state;
-    let outcome = r.outcome;
-    keep_d_psi(state, w, k, f);
-    tell_d_psi(outcome, w)
+    keep_d_psi(r.state, w, k, f);
+    tell_d_psi(r.outcome, w)
 }

@@ -1,7 +1,8 @@
 // The point of a question of psi, the penalty function, for C, as the crate host_points has those of the inner solve.
 #![tactic(auto)]
 
-ghost use Rattle.factory.specs.FactoryBoard.{PsiBoard, psi_run_of, psi_ut};
+ghost use Rattle.factory.specs.declared.alm_factory.PsiBoard.{PsiBoard};
+ghost use Rattle.factory.specs.FactoryBoard.{run_of, psi_ut};
 ghost use Rattle.factory.specs.FactoryCalls.{Points};
 ghost use Rattle.factory.specs.FactoryRest.{psi_rest};
 ghost use Rattle.psi_image.specs.PsiImage.{psi_of};
@@ -20,8 +21,7 @@ pub extern "C" fn pozkerrin_psi_points<'a>(
     u: &'a [f64; 64],
     t: &'a [f64; 64],
 ) -> u32
-    ensures { (b : PsiBoard) → Points (psi_rest (psi_run_of (psi_of w.now k.now f.now) (psi_ut u.now t.now b))) first.old first.new second.old second.new result }
+    ensures { (b : PsiBoard) → Points (psi_rest (run_of (psi_of w.now k.now f.now) (psi_ut u.now t.now b))) first.old first.new second.old second.new result }
 {
-    let s = psi_of(w, k, f);
-    points_in_place(s, first, second, u, t)
+    points_in_place(psi_of(w, k, f), first, second, u, t)
 }

@@ -1,7 +1,8 @@
 // The start of psi, the penalty function, for C, as the crate host_start has that of the inner solve.
 #![tactic(auto)]
 
-ghost use Rattle.factory.specs.FactoryBoard.{PsiBoard, psi_gave, psi_uy};
+ghost use Rattle.factory.specs.declared.alm_factory.PsiBoard.{PsiBoard};
+ghost use Rattle.factory.specs.FactoryBoard.{gave, psi_uy};
 ghost use Rattle.factory.specs.FactoryCalls.{PsiStarts};
 ghost use Rattle.psi_image.specs.PsiImage.{psi_step_of};
 
@@ -23,12 +24,10 @@ pub extern "C" fn pozkerrin_psi_start(
     u: &mut [f64; 64],
     y: &mut [f64; 64],
 ) -> u32
-    ensures { (b : PsiBoard) → PsiStarts (record { n = n; n1 = n1; n2 = n2 }) at.now xi.now (psi_gave (psi_step_of result w.new k.new f.new) (psi_uy u.new y.new b)) }
+    ensures { (b : PsiBoard) → PsiStarts (record { n = n; n1 = n1; n2 = n2 }) at.now xi.now (gave (psi_step_of result w.new k.new f.new) (psi_uy u.new y.new b)) }
 {
     let sizes = Sizes { n, n1, n2 };
     let r = start_in_place(sizes, at, xi, u, y);
-    let state = r.state;
-    let outcome = r.outcome;
-    keep_psi(state, w, k, f);
-    tell_psi(outcome, w, f)
+    keep_psi(r.state, w, k, f);
+    tell_psi(r.outcome, w, f)
 }

@@ -1,9 +1,9 @@
 -- What each way through a handler of psi comes to, over plain values. Assumes nothing.
 use Prim.Native.Nat.{ℕ}
 use mathlib.Core.Path.{◌≡◌, refl, sym, ap, ◌∙◌, subst}
-use mathlib.Core.Bool.{Bool, true, false, cond}
+use mathlib.Core.Bool.{Bool, true}
 use mathlib.Core.List.{List}
-use mathlib.Core.Option.{Option, none, some}
+use mathlib.Core.Option.{Option, some}
 use native.Mathlib.Omega.{arith}
 use borrow.Author.Tests.{eq-eqb, ne_eqb}
 use lib.Ieee.{Float, binary64, add, mul, div}
@@ -21,50 +21,19 @@ use Rattle.model.specs.Refusals as R
 use Rattle.panoc_core.specs.Values.{reply_of}
 use Rattle.panoc_core.specs.declared.panoc_cache.Reply.{Reply}
 use Rattle.panoc_core.specs.declared.panoc_cache.Reply.TheVariants.{Number, Vector, Yes, No, Failure}
+use Rattle.factory.specs.declared.alm_factory.PsiBoard.{PsiBoard}
 use Rattle.factory.specs.declared.alm_factory.Sizes.{Sizes}
 use Rattle.factory.specs.declared.alm_factory.PsiQuestion.TheVariants as Q
 use Rattle.factory.specs.declared.alm_factory.PsiPhase.{PsiPhase}
 use Rattle.factory.specs.declared.alm_factory.PsiPhase.TheVariants as P
-use Rattle.factory.specs.declared.alm_factory.PsiOutcome.TheVariants as O
-use Rattle.factory.specs.declared.alm_factory.PsiState.{PsiState}
-use Rattle.factory.specs.declared.alm_factory.PsiStepped.{PsiStepped}
-use Rattle.factory.specs.FactoryValues.{psi_said}
-use Rattle.factory.specs.FactoryRest.{sound_sizes, psi_resume, psi_rest}
+use Rattle.panoc_core.specs.declared.outcome.Outcome.TheVariants as O
+use Rattle.factory.specs.FactoryValues.{psi_tells, PsiState, PsiStepped}
+use Rattle.factory.specs.FactoryRest.{psi_resume, psi_rest}
 use Rattle.factory.specs.FactoryCalls.{PsiReaches, PsiAnswers}
-use Rattle.factory.specs.FactoryBoard.{Sound, PsiBoard, psi_run_of, psi_gave, with_value, psi_stepped, PsiTakes, psi_f2_at, psi_kind_at, psi_kind, psi_w, psi_tw}
-use Rattle.factory.specs.FactoryLaws.{taken, wanted_any, accepted_any, accepted_number, accepted_yes, accepted_no, accepted_length, vector_for_number, vector_for_none, accepted_failure}
-use Rattle.factory.specs.PsiRest.{rest_at, rest_over, asks_comes}
-
--- ---- what a run waits for
-kind_at : (s : PsiState) (b : PsiBoard) (p : PsiPhase) → wanted (psi_resume (psi_run_of s b) p) ≡ psi_kind_at s.sizes p
-unfolding wanted psi_resume
-kind_at s b P.Cost = refl
-kind_at s b P.F1 = refl
-kind_at s b P.ProjectC = refl
-kind_at s b P.F2 = refl
-kind_at s b P.Over = refl
-
-wanted_is : (s : PsiState) (b : PsiBoard) → wanted (psi_rest (psi_run_of s b)) ≡ psi_kind s
-unfolding psi_rest psi_kind
-wanted_is s b = wanted_any (sound_sizes s.sizes) _ _ (kind_at s b s.phase)
-
-pub wants_at : (s : PsiState) (p : PsiPhase) → sound_sizes s.sizes ≡ true → s.phase ≡ p → psi_kind_at s.sizes p ≡ psi_kind s
-unfolding psi_kind
-wants_at s p h e = sym (ap (λ (t : Bool). cond t (psi_kind_at s.sizes s.phase) none) h ∙ ap (psi_kind_at s.sizes) e)
-
-pub wants_none : (s : PsiState) → sound_sizes s.sizes ≡ false → none ≡ psi_kind s
-unfolding psi_kind
-wants_none s h = sym (ap (λ (t : Bool). cond t (psi_kind_at s.sizes s.phase) none) h)
-
--- what follows where an answer is accepted
-module _ (s : PsiState) (a : R.Reply) (vs : ℕ) (lent : Bool) (e : answer_refusal (psi_kind s) a vs lent ≡ 0) where
-  accepted_sound : Sound s.sizes
-  unfolding psi_kind
-  accepted_sound = (accepted_any _ _ a vs lent e).0
-
-  accepted_at : (p : PsiPhase) → s.phase ≡ p → answer_refusal (psi_kind_at s.sizes p) a vs lent ≡ 0
-  unfolding psi_kind
-  accepted_at p q = ap (λ (z : PsiPhase). answer_refusal (psi_kind_at s.sizes z) a vs lent) (sym q) ∙ (accepted_any (sound_sizes s.sizes) _ a vs lent e).1
+use Rattle.factory.specs.FactoryBoard.{Sound, run_of, gave, with_value, stepped, PsiTakes, psi_f2_at, psi_kind_at, psi_kind, psi_w, psi_tw}
+use Rattle.factory.specs.FactoryLaws.{taken, accepted_number, accepted_yes, accepted_no, vector_for_number}
+use Rattle.factory.specs.FactoryPenalties.{psi_ends, psi_kinds}
+use Rattle.factory.specs.FactoryRuns.{takes_number, takes_vector, asks_comes, ends_comes, fails_comes, accepted_at, wanted_is, takes_failure}
 
 -- a number is taken at the cost alone, and no yes or no
 number_at : (s : Sizes) (p : PsiPhase) → psi_kind_at s p ≡ some Kind.number → p ≡ P.Cost
@@ -85,7 +54,8 @@ module _ (s : PsiState) (a : Reply) (vs : ℕ) (lent : Bool) (e : answer_refusal
   pub cost_phase : (x : Float) → a ≡ Number x → (Sound s.sizes) × (s.phase ≡ P.Cost)
   cost_phase x q =
       let e' : answer_refusal (psi_kind s) (R.Reply.number x) vs lent ≡ 0 = subst (λ (z : Reply). answer_refusal (psi_kind s) (reply_of z) vs lent ≡ 0) q e in
-      (accepted_sound s _ vs lent e', number_at s.sizes s.phase (accepted_number _ x vs lent (accepted_at s _ vs lent e' s.phase refl)))
+      let w = accepted_at psi_kind_at s _ vs lent e' s.phase refl in
+      (w.0, number_at s.sizes s.phase (accepted_number _ x vs lent w.1))
 
   pub vector_accepted : a ≡ Vector → answer_refusal (psi_kind s) R.Reply.vector vs lent ≡ 0
   vector_accepted q = subst (λ (z : Reply). answer_refusal (psi_kind s) (reply_of z) vs lent ≡ 0) q e
@@ -93,91 +63,68 @@ module _ (s : PsiState) (a : Reply) (vs : ℕ) (lent : Bool) (e : answer_refusal
   pub yes_not : a ≡ Yes → ⊥
   yes_not q =
       let e' : answer_refusal (psi_kind s) R.Reply.yes vs lent ≡ 0 = subst (λ (z : Reply). answer_refusal (psi_kind s) (reply_of z) vs lent ≡ 0) q e in
-      decision_not s.sizes s.phase (accepted_yes _ vs lent (accepted_at s _ vs lent e' s.phase refl))
+      decision_not s.sizes s.phase (accepted_yes _ vs lent (accepted_at psi_kind_at s _ vs lent e' s.phase refl).1)
 
   pub no_not : a ≡ No → ⊥
   no_not q =
       let e' : answer_refusal (psi_kind s) R.Reply.no vs lent ≡ 0 = subst (λ (z : Reply). answer_refusal (psi_kind s) (reply_of z) vs lent ≡ 0) q e in
-      decision_not s.sizes s.phase (accepted_no _ vs lent (accepted_at s _ vs lent e' s.phase refl))
+      decision_not s.sizes s.phase (accepted_no _ vs lent (accepted_at psi_kind_at s _ vs lent e' s.phase refl).1)
 
--- what is known of a vector at a phase
-module _ (s : PsiState) (vs : ℕ) (e : answer_refusal (psi_kind s) R.Reply.vector vs true ≡ 0) where
-  pub vector_at : (p : PsiPhase) (n : ℕ) → s.phase ≡ p → psi_kind_at s.sizes p ≡ some (Kind.vector n) → (Sound s.sizes) × (s.phase ≡ p) × (vs ≡ n)
-  vector_at p n q k =
-      (accepted_sound s _ vs true e, q, accepted_length n vs true (subst (λ (z : Option Kind). answer_refusal z R.Reply.vector vs true ≡ 0) k (accepted_at s _ vs true e p q)))
-
-  pub vector_not_cost : s.phase ≡ P.Cost → ⊥
-  vector_not_cost q = vector_for_number vs true (accepted_at s _ vs true e P.Cost q)
-
-  pub vector_not_over : s.phase ≡ P.Over → ⊥
-  vector_not_over q = vector_for_none vs true (accepted_at s _ vs true e P.Over q)
-
--- ---- a question, and an end
-ends_comes : (t : PsiState) (b : PsiBoard) (x : Float) (r : PsiStepped) → r ≡ psi_stepped (O.Ended x) P.Over t → PsiReaches t.sizes (stop (handed x)) (psi_gave r b)
-unfolding psi_said remains
-ends_comes t b x r e = rw e (record { sizes = refl; outcome = refl; process = rest_over _ refl })
-
-fails_comes : (t : PsiState) (b : PsiBoard) (c : ℕ) (r : PsiStepped) → r ≡ psi_stepped (O.Failed c) P.Over t → PsiReaches t.sizes (stop (failed c)) (psi_gave r b)
-unfolding psi_said remains
-fails_comes t b c r e = rw e (record { sizes = refl; outcome = refl; process = rest_over _ refl })
+pub vector_not_cost : (s : PsiState) (vs : ℕ) → answer_refusal (psi_kind s) R.Reply.vector vs true ≡ 0 → s.phase ≡ P.Cost → ⊥
+vector_not_cost s vs e q = vector_for_number vs true (accepted_at psi_kind_at s R.Reply.vector vs true e P.Cost q).1
 
 -- ---- an answer of the kind asked
 module _ (s : PsiState) (b b' : PsiBoard) (r : PsiStepped) (h : Sound s.sizes) (p : PsiPhase) (e : s.phase ≡ p) (q : M.PsiQuestion) (v : List Float) where
-  takes_number : (continue : Float → M.Psi) (x : Float) → psi_resume (psi_run_of s b) p ≡ ask q Kind.number continue → PsiReaches s.sizes (continue x) (psi_gave r b')
+  number_taken : (continue : Float → M.Psi) (x : Float) → psi_resume (run_of s b) p ≡ ask q Kind.number continue → PsiReaches s.sizes (continue x) (gave r b')
       → PsiTakes s b (Number x) v r b'
-  unfolding accept replied go_on as_number
-  takes_number continue x w c = rw (rest_at s b p h e, w) c
+  number_taken continue x w c = rw (takes_number psi_resume s b p q continue x v h e w) c
 
-  takes_vector : (n : ℕ) (continue : List Float → M.Psi) → psi_resume (psi_run_of s b) p ≡ ask q (Kind.vector n) continue → PsiReaches s.sizes (continue v) (psi_gave r b')
+  vector_taken : (n : ℕ) (continue : List Float → M.Psi) → psi_resume (run_of s b) p ≡ ask q (Kind.vector n) continue → PsiReaches s.sizes (continue v) (gave r b')
       → PsiTakes s b Vector v r b'
-  unfolding accept replied go_on as_vector
-  takes_vector n continue w c = rw (rest_at s b p h e, w) c
+  vector_taken n continue w c = rw (takes_vector psi_resume s b p q n continue v h e w) c
 
 -- ---- one law for each return of a handler
 module _ (s : PsiState) (b : PsiBoard) (ok : Sound s.sizes) (r : PsiStepped) where
-  pub f2_asked : (s.sizes.n2 ≡ 0 → ⊥) → r ≡ psi_stepped (O.Asked Q.F2) P.F2 s → PsiReaches s.sizes (psi_f2_at s b) (psi_gave r b)
+  pub f2_asked : (s.sizes.n2 ≡ 0 → ⊥) → r ≡ stepped (O.Asked Q.F2) P.F2 s → PsiReaches s.sizes (psi_f2_at s b) (gave r b)
   unfolding S.psi_ask_f2 psi_resume
-  f2_asked z e = rw (ne_eqb _ _ z) (asks_comes s b P.F2 _ _ _ r ok e refl)
+  f2_asked z e = rw (ne_eqb _ _ z) (asks_comes psi_tells psi_resume s b P.F2 r _ _ _ ok e refl)
 
-  pub f2_none : s.sizes.n2 ≡ 0 → r ≡ psi_stepped (O.Ended s.value) P.Over s → PsiReaches s.sizes (psi_f2_at s b) (psi_gave r b)
+  pub f2_none : s.sizes.n2 ≡ 0 → r ≡ stepped (O.Ended s.value) P.Over s → PsiReaches s.sizes (psi_f2_at s b) (gave r b)
   unfolding S.psi_ask_f2
-  f2_none z e = rw (eq-eqb _ _ z) (ends_comes s b s.value r e)
+  f2_none z e = rw (eq-eqb _ _ z) (ends_comes psi_tells psi_resume s b P.Over r s.value (psi_ends _) e)
 
-  pub cost_asks : (x : Float) (v : List Float) → s.phase ≡ P.Cost → (s.sizes.n1 ≡ 0 → ⊥) → r ≡ psi_stepped (O.Asked Q.F1) P.F1 (with_value x s) → PsiTakes s b (Number x) v r b
+  pub cost_asks : (x : Float) (v : List Float) → s.phase ≡ P.Cost → (s.sizes.n1 ≡ 0 → ⊥) → r ≡ stepped (O.Asked Q.F1) P.F1 (with_value x s) → PsiTakes s b (Number x) v r b
   unfolding psi_resume S.psi_cost
-  cost_asks x v p z e = takes_number s b b r ok P.Cost p _ v _ x refl (rw (ne_eqb _ _ z) (asks_comes (with_value x s) b P.F1 _ _ _ r ok e refl))
+  cost_asks x v p z e = number_taken s b b r ok P.Cost p _ v _ x refl (rw (ne_eqb _ _ z) (asks_comes psi_tells psi_resume (with_value x s) b P.F1 r _ _ _ ok e refl))
 
-  pub cost_goes : (x : Float) (v : List Float) → s.phase ≡ P.Cost → s.sizes.n1 ≡ 0 → PsiReaches s.sizes (psi_f2_at (with_value x s) b) (psi_gave r b) → PsiTakes s b (Number x) v r b
+  pub cost_goes : (x : Float) (v : List Float) → s.phase ≡ P.Cost → s.sizes.n1 ≡ 0 → PsiReaches s.sizes (psi_f2_at (with_value x s) b) (gave r b) → PsiTakes s b (Number x) v r b
   unfolding psi_resume S.psi_cost
-  cost_goes x v p z c = takes_number s b b r ok P.Cost p _ v _ x refl (rw (eq-eqb _ _ z) c)
+  cost_goes x v p z c = number_taken s b b r ok P.Cost p _ v _ x refl (rw (eq-eqb _ _ z) c)
 
-  pub f1_goes : (v t w : List Float) (m : Float) → s.phase ≡ P.F1 → length v ≡ s.sizes.n1 → m ≡ larger s.c (one binary64) → firsts (length v) w ≡ v
-      → firsts s.sizes.n1 t ≡ plus_over binary64 m (firsts s.sizes.n1 w) (firsts s.sizes.n1 b.y) → r ≡ psi_stepped (O.Asked Q.ProjectC) P.ProjectC s
-      → PsiTakes s b Vector v r (psi_tw t w b)
+  pub f1_goes : (v t w : List Float) (m : Float) → s.phase ≡ P.F1 → length v ≡ s.sizes.n1 → m ≡ larger s.c (one binary64)
+      → firsts (length v) t ≡ plus_over binary64 m v (firsts (length v) b.y) → r ≡ stepped (O.Asked Q.ProjectC) P.ProjectC s → PsiTakes s b Vector v r (psi_tw t w b)
   unfolding psi_resume S.psi_f1
-  f1_goes v t w m p l mv wv tv e =
-      let t≡ : firsts s.sizes.n1 t ≡ plus_over binary64 (larger s.c (one binary64)) v (firsts s.sizes.n1 b.y) =
-      tv ∙ ap (λ (z : Float). plus_over binary64 z (firsts s.sizes.n1 w) (firsts s.sizes.n1 b.y)) mv
-      ∙ ap (λ (z : List Float). plus_over binary64 (larger s.c (one binary64)) z (firsts s.sizes.n1 b.y)) (taken s.sizes.n1 v w l wv) in
-      takes_vector s b (psi_tw t w b) r ok P.F1 p _ v _ _ refl (asks_comes s (psi_tw t w b) P.ProjectC _ _ _ r ok e (rw t≡))
+  f1_goes v t w m p l mv tv e =
+      let t≡ : firsts s.sizes.n1 t ≡ plus_over binary64 (larger s.c (one binary64)) v (firsts s.sizes.n1 b.y) = rw (← mv, ← l) tv in
+      vector_taken s b (psi_tw t w b) r ok P.F1 p _ v _ _ refl (asks_comes psi_tells psi_resume s (psi_tw t w b) P.ProjectC r _ _ _ ok e (rw t≡))
 
   pub c_goes : (v w : List Float) (x z : Float) → s.phase ≡ P.ProjectC → length v ≡ s.sizes.n1 → firsts (length v) w ≡ v
       → x ≡ squares binary64 (minus binary64 (firsts s.sizes.n1 b.t) (firsts s.sizes.n1 w)) → z ≡ add binary64 s.value (mul binary64 (div binary64 s.c (two binary64)) x)
-      → ((d : PsiBoard) → PsiReaches s.sizes (psi_f2_at (with_value z s) d) (psi_gave r d)) → PsiTakes s b Vector v r (psi_w w b)
+      → ((d : PsiBoard) → PsiReaches s.sizes (psi_f2_at (with_value z s) d) (gave r d)) → PsiTakes s b Vector v r (psi_w w b)
   unfolding psi_resume S.psi_c S.penalized
   c_goes v w x z p l wv xv zv c =
       let z≡ : z ≡ add binary64 s.value (mul binary64 (div binary64 s.c (two binary64)) (squares binary64 (minus binary64 (firsts s.sizes.n1 b.t) v))) =
       zv ∙ ap (λ (q : Float). add binary64 s.value (mul binary64 (div binary64 s.c (two binary64)) q))
       (xv ∙ ap (λ (q : List Float). squares binary64 (minus binary64 (firsts s.sizes.n1 b.t) q)) (taken s.sizes.n1 v w l wv)) in
-      takes_vector s b (psi_w w b) r ok P.ProjectC p _ v _ _ refl (rw (← z≡) (c (psi_w w b)))
+      vector_taken s b (psi_w w b) r ok P.ProjectC p _ v _ _ refl (rw (← z≡) (c (psi_w w b)))
 
   pub f2_gives : (v w : List Float) (x z : Float) → s.phase ≡ P.F2 → length v ≡ s.sizes.n2 → firsts (length v) w ≡ v → x ≡ squares binary64 (firsts s.sizes.n2 w)
-      → z ≡ add binary64 s.value (mul binary64 (div binary64 s.c (two binary64)) x) → r ≡ psi_stepped (O.Ended z) P.Over s → PsiTakes s b Vector v r (psi_w w b)
+      → z ≡ add binary64 s.value (mul binary64 (div binary64 s.c (two binary64)) x) → r ≡ stepped (O.Ended z) P.Over s → PsiTakes s b Vector v r (psi_w w b)
   unfolding psi_resume S.psi_f2 S.penalized
   f2_gives v w x z p l wv xv zv e =
       let z≡ : z ≡ add binary64 s.value (mul binary64 (div binary64 s.c (two binary64)) (squares binary64 v)) =
       zv ∙ ap (λ (q : Float). add binary64 s.value (mul binary64 (div binary64 s.c (two binary64)) q)) (xv ∙ ap (squares binary64) (taken s.sizes.n2 v w l wv)) in
-      takes_vector s b (psi_w w b) r ok P.F2 p _ v _ _ refl (rw (← z≡) (ends_comes s (psi_w w b) z r e))
+      vector_taken s b (psi_w w b) r ok P.F2 p _ v _ _ refl (rw (← z≡) (ends_comes psi_tells psi_resume s (psi_w w b) P.Over r z refl e))
 
 -- ---- one answer
 module _ (s : PsiState) (b b' : PsiBoard) (a : Reply) (v : List Float) (r : PsiStepped) where
@@ -187,22 +134,21 @@ module _ (s : PsiState) (b b' : PsiBoard) (a : Reply) (v : List Float) (r : PsiS
   pub took_vector : a ≡ Vector → PsiTakes s b Vector v r b' → PsiTakes s b a v r b'
   took_vector e w = subst (λ (z : Reply). PsiTakes s b z v r b') (sym e) w
 
-  pub answer_goes : (m : ℕ) → m ≡ answer_refusal (psi_kind s) (reply_of a) (length v) true → m ≡ 0 → PsiTakes s b a v r b' → PsiAnswers (psi_run_of s b) a v (psi_gave r b')
+  pub answer_goes : (m : ℕ) → m ≡ answer_refusal (psi_kind s) (reply_of a) (length v) true → m ≡ 0 → PsiTakes s b a v r b' → PsiAnswers (run_of s b) a v (gave r b')
   answer_goes m e z w =
-      let k : answer_refusal (wanted (psi_rest (psi_run_of s b))) (reply_of a) (length v) true ≡ 0 = ap (λ (o : Option Kind). answer_refusal o (reply_of a) (length v) true) (wanted_is s b) ∙ sym e ∙ z in
+      let k : answer_refusal (wanted (psi_rest (run_of s b))) (reply_of a) (length v) true ≡ 0 = ap (λ (o : Option Kind). answer_refusal o (reply_of a) (length v) true) (wanted_is psi_resume psi_kind_at psi_kinds s b) ∙ sym e ∙ z in
       record { refused = λ i q. absurd (omega (arith, k, q)); accepted = λ q. w }
 
 module _ (s : PsiState) (b : PsiBoard) (a : Reply) (v : List Float) (r : PsiStepped) where
-  pub took_failure : (c : ℕ) → a ≡ Failure c → answer_refusal (psi_kind s) (reply_of a) (length v) true ≡ 0 → r ≡ psi_stepped (O.Failed c) P.Over s → PsiTakes s b a v r b
+  pub took_failure : (c : ℕ) → a ≡ Failure c → answer_refusal (psi_kind s) (reply_of a) (length v) true ≡ 0 → r ≡ stepped (O.Failed c) P.Over s → PsiTakes s b a v r b
   took_failure c q e w =
-      let k : answer_refusal (wanted (psi_rest (psi_run_of s b))) (R.Reply.failure c) (length v) true ≡ 0 =
-      ap (λ (o : Option Kind). answer_refusal o (R.Reply.failure c) (length v) true) (wanted_is s b) ∙ subst (λ (z : Reply). answer_refusal (psi_kind s) (reply_of z) (length v) true ≡ 0) q e in
-      subst (λ (z : Reply). PsiTakes s b z v r b) (sym q) (rw (accepted_failure (psi_rest (psi_run_of s b)) c v (length v) true k) (fails_comes s b c r w))
+      let k : answer_refusal (psi_kind s) (R.Reply.failure c) (length v) true ≡ 0 = subst (λ (z : Reply). answer_refusal (psi_kind s) (reply_of z) (length v) true ≡ 0) q e in
+      subst (λ (z : Reply). PsiTakes s b z v r b) (sym q) (rw (takes_failure psi_resume psi_kind_at psi_kinds s b c v (length v) true k) (fails_comes psi_tells psi_resume s b P.Over r c (psi_ends _) w))
 
-  pub answer_refused : (m : ℕ) → m ≡ answer_refusal (psi_kind s) (reply_of a) (length v) true → (m ≡ 0 → ⊥) → r ≡ psi_stepped (O.Refused m) s.phase s → PsiAnswers (psi_run_of s b) a v (psi_gave r b)
+  pub answer_refused : (m : ℕ) → m ≡ answer_refusal (psi_kind s) (reply_of a) (length v) true → (m ≡ 0 → ⊥) → r ≡ stepped (O.Refused m) s.phase s → PsiAnswers (run_of s b) a v (gave r b)
   answer_refused m e z w =
-      let k : m ≡ answer_refusal (wanted (psi_rest (psi_run_of s b))) (reply_of a) (length v) true = e ∙ ap (λ (o : Option Kind). answer_refusal o (reply_of a) (length v) true) (sym (wanted_is s b)) in
+      let k : m ≡ answer_refusal (wanted (psi_rest (run_of s b))) (reply_of a) (length v) true = e ∙ ap (λ (o : Option Kind). answer_refusal o (reply_of a) (length v) true) (sym (wanted_is psi_resume psi_kind_at psi_kinds s b)) in
       record {
-        refused = λ i q. (ap (λ (t : PsiStepped). t.outcome) w ∙ ap O.Refused (k ∙ q), ap (λ (t : PsiStepped). psi_run_of t.state b) w);
+        refused = λ i q. (ap (λ (t : PsiStepped). t.outcome) w ∙ ap O.Refused (k ∙ q), ap (λ (t : PsiStepped). run_of t.state b) w);
         accepted = λ q. absurd (z (k ∙ q));
       }

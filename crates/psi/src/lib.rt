@@ -4,36 +4,23 @@
 ghost use Rattle.std.specs.Prelude.{◌≡◌, true, List, Float, length};
 ghost use Rattle.model.specs.Refusals.{answer_refusal};
 ghost use Rattle.panoc_core.specs.Values.{reply_of, kind_of};
+ghost use Rattle.factory.specs.declared.alm_factory.PsiBoard.{PsiBoard};
 ghost use Rattle.factory.specs.FactoryCalls.{PsiReaches, PsiAnswers};
-ghost use Rattle.factory.specs.FactoryBoard.{Sound, PsiBoard, PsiTakes, psi_run_of, psi_gave, psi_stepped, psi_kind, psi_f2_at, psi_w, psi_tw, psi_ytw};
+ghost use Rattle.factory.specs.FactoryBoard.{Sound, PsiTakes, run_of, gave, stepped, psi_kind, psi_f2_at, psi_w, psi_tw, psi_ytw};
 
-use factory::alm_factory::start::sound;
+use factory::alm_factory::steps::{refuses, to, wants};
+use factory::alm_factory::terms::shifted_into;
 use factory::alm_factory::{
-    PsiAnswered, PsiOutcome, PsiPhase, PsiQuestion, PsiRun, PsiState, PsiStepped,
+    PsiAnswered, PsiBoard, PsiOutcome, PsiPhase, PsiQuestion, PsiRun, PsiState, PsiStepped,
 };
 use panoc_core::panoc_cache::Reply;
-use panoc_core::refusals::{Wanted, refusal};
+use panoc_core::refusals::refusal;
 use penalty_terms::{divisor, penalized};
-use psi_starts::refuses;
-
-// On to another phase, with what the call says.
-fn to(s: PsiState, phase: PsiPhase, outcome: PsiOutcome) -> PsiStepped
-    ensures { result ≡ psi_stepped outcome phase s }
-{
-    let sizes = s.sizes;
-    let state = PsiState {
-        phase,
-        sizes,
-        c: s.c,
-        value: s.value,
-    };
-    PsiStepped { outcome, state }
-}
 
 // The part of F1 is in the value: F2, or the end where there is none.
 fn ask_f2(s: PsiState) -> PsiStepped
     requires { Sound s.sizes }
-    ensures { (b : PsiBoard) → PsiReaches s.sizes (psi_f2_at s b) (psi_gave result b) }
+    ensures { (b : PsiBoard) → PsiReaches s.sizes (psi_f2_at s b) (gave result b) }
 {
     if s.sizes.n2 == 0 {
         to(s, PsiPhase::Over, PsiOutcome::Ended(s.value))
@@ -47,12 +34,11 @@ fn on_cost(s: PsiState, x: f64) -> PsiStepped
     requires { (Sound s.sizes) × (s.phase ≡ PsiPhase.Cost) }
     ensures { (b : PsiBoard) → (v : List Float) → PsiTakes s b (Reply.Number x) v result b }
 {
-    let mut t = s;
-    t.value = x;
+    let p = PsiState { value: x, ..s };
     if s.sizes.n1 == 0 {
-        ask_f2(t)
+        ask_f2(p)
     } else {
-        to(t, PsiPhase::F1, PsiOutcome::Asked(PsiQuestion::F1))
+        to(p, PsiPhase::F1, PsiOutcome::Asked(PsiQuestion::F1))
     }
 }
 
@@ -67,10 +53,7 @@ fn on_f1(
     requires { (Sound s.sizes) × (s.phase ≡ PsiPhase.F1) × (length v.now ≡ s.sizes.n1) }
     ensures { (b : PsiBoard) → PsiTakes s (psi_ytw y.now t.old work.old b) Reply.Vector v.now result (psi_ytw y.now t.new work.new b) }
 {
-    let n1 = s.sizes.n1;
-    let scale = divisor(s.c);
-    vector_copies::take_into(v, work);
-    vector_updates::plus_over_into(scale, work, y, t, n1);
+    shifted_into(divisor(s.c), v, y, t, work);
     to(
         s,
         PsiPhase::ProjectC,
@@ -83,13 +66,10 @@ fn on_project_c(s: PsiState, v: &[f64], t: &[f64; 64], work: &mut [f64; 64]) -> 
     requires { (Sound s.sizes) × (s.phase ≡ PsiPhase.ProjectC) × (length v.now ≡ s.sizes.n1) }
     ensures { (b : PsiBoard) → PsiTakes s (psi_tw t.now work.old b) Reply.Vector v.now result (psi_tw t.now work.new b) }
 {
-    let n1 = s.sizes.n1;
     vector_copies::take_into(v, work);
-    let distance = matrix_operations::norm2_squared_diff(t, work, n1);
+    let distance = matrix_operations::norm2_squared_diff(t, work, s.sizes.n1);
     let value = penalized(s.value, s.c, distance);
-    let mut p = s;
-    p.value = value;
-    ask_f2(p)
+    ask_f2(PsiState { value, ..s })
 }
 
 // F2 at u is v.
@@ -97,30 +77,10 @@ fn on_f2(s: PsiState, v: &[f64], work: &mut [f64; 64]) -> PsiStepped
     requires { (Sound s.sizes) × (s.phase ≡ PsiPhase.F2) × (length v.now ≡ s.sizes.n2) }
     ensures { (b : PsiBoard) → PsiTakes s (psi_w work.old b) Reply.Vector v.now result (psi_w work.new b) }
 {
-    let n2 = s.sizes.n2;
     vector_copies::take_into(v, work);
-    let norm = matrix_operations::norm2_squared(work, n2);
+    let norm = matrix_operations::norm2_squared(work, s.sizes.n2);
     let value = penalized(s.value, s.c, norm);
     to(s, PsiPhase::Over, PsiOutcome::Ended(value))
-}
-
-// What the run waits for: nothing where it has ended, or where no start made it.
-fn wants(s: PsiState) -> Wanted
-    ensures { kind_of result ≡ psi_kind s }
-{
-    let sizes = s.sizes;
-    if sound(sizes) {
-        let phase = s.phase;
-        match phase {
-            PsiPhase::Cost => Wanted::Number,
-            PsiPhase::F1 => Wanted::Vector(sizes.n1),
-            PsiPhase::ProjectC => Wanted::Vector(sizes.n1),
-            PsiPhase::F2 => Wanted::Vector(sizes.n2),
-            PsiPhase::Over => Wanted::Nothing,
-        }
-    } else {
-        Wanted::Nothing
-    }
 }
 
 // A vector that was asked for.
@@ -134,8 +94,7 @@ fn on_vector(
     requires { answer_refusal (psi_kind s) (reply_of Reply.Vector) (length v.now) true ≡ 0 }
     ensures { (b : PsiBoard) → PsiTakes s (psi_ytw y.now t.old work.old b) Reply.Vector v.now result (psi_ytw y.now t.new work.new b) }
 {
-    let phase = s.phase;
-    match phase {
+    match s.phase {
         PsiPhase::F1 => on_f1(s, v, y, t, work),
         PsiPhase::ProjectC => on_project_c(s, v, t, work),
         PsiPhase::F2 => on_f2(s, v, work),
@@ -160,8 +119,7 @@ fn step(
         Reply::Number(x) => on_cost(s, x),
         Reply::Vector => on_vector(s, v, y, t, work),
         Reply::Failure(code) => to(s, PsiPhase::Over, PsiOutcome::Failed(code)),
-        Reply::Yes => refuses(s, 7),
-        Reply::No => refuses(s, 7),
+        Reply::Yes | Reply::No => refuses(s, 7),
     }
 }
 
@@ -174,7 +132,7 @@ pub fn answer_in_place(
     t: &mut [f64; 64],
     work: &mut [f64; 64],
 ) -> PsiStepped
-    ensures { (b : PsiBoard) → PsiAnswers (psi_run_of s (psi_ytw y.now t.old work.old b)) a v.now (psi_gave result (psi_ytw y.now t.new work.new b)) }
+    ensures { (b : PsiBoard) → PsiAnswers (run_of s (psi_ytw y.now t.old work.old b)) a v.now (gave result (psi_ytw y.now t.new work.new b)) }
 {
     let number = refusal(wants(s), a, v.len(), true);
     if number == 0 {
@@ -188,20 +146,18 @@ pub fn answer_in_place(
 pub fn answer(run: PsiRun, a: Reply, v: &[f64]) -> PsiAnswered
     ensures { PsiAnswers run a v.now result }
 {
-    let s = run.state;
-    let u = run.u;
-    let y = run.y;
-    let mut t = run.t;
-    let mut work = run.work;
-    let r = answer_in_place(s, a, v, &y, &mut t, &mut work);
-    let outcome = r.outcome;
-    let state = r.state;
-    let run = PsiRun {
-        state,
-        u,
-        y,
-        t,
-        work,
-    };
-    PsiAnswered { outcome, run }
+    let mut t = run.board.t;
+    let mut work = run.board.work;
+    let r = answer_in_place(run.state, a, v, &run.board.y, &mut t, &mut work);
+    PsiAnswered {
+        outcome: r.outcome,
+        run: PsiRun {
+            state: r.state,
+            board: PsiBoard {
+                t,
+                work,
+                ..run.board
+            },
+        },
+    }
 }

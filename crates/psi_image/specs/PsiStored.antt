@@ -1,12 +1,7 @@
 -- What a call gave is what the lent numbers stand for, once it is kept and told. Assumes nothing.
+use Rattle.factory.specs.FactoryValues.{DPsiOutcome, DPsiState, DPsiStepped, PsiOutcome, PsiState, PsiStepped}
 use Rattle.std.specs.Prelude.{ℕ, ◌≡◌, List, Float}
 use Rattle.std.proofs.Common.{ap, ◌∙◌}
-use Rattle.factory.specs.declared.alm_factory.DPsiOutcome.{DPsiOutcome}
-use Rattle.factory.specs.declared.alm_factory.DPsiState.{DPsiState}
-use Rattle.factory.specs.declared.alm_factory.DPsiStepped.{DPsiStepped}
-use Rattle.factory.specs.declared.alm_factory.PsiOutcome.{PsiOutcome}
-use Rattle.factory.specs.declared.alm_factory.PsiState.{PsiState}
-use Rattle.factory.specs.declared.alm_factory.PsiStepped.{PsiStepped}
 use Rattle.psi_image.specs.PsiImage.{psi_of, psi_step_of, PsiTells, d_psi_of, d_psi_step_of, DPsiTells}
 
 pub psi_stored : (s : PsiStepped) (r : ℕ) (w w' k : List ℕ) (f f' : List Float) → psi_of w k f ≡ s.state → PsiTells s.outcome r w f w' f' → psi_step_of r w' k f' ≡ s

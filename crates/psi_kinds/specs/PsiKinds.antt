@@ -1,5 +1,5 @@
--- What the numbers of the phases, questions and answers of psi and d_psi stand for. Definitions only.
-use Rattle.std.specs.Prelude.{ℕ, List, [], ◌∷◌, Float, get_or}
+-- What the numbers of the phases, questions and answers of psi and d_psi stand for, and that a phase is that of its number.
+use Rattle.std.specs.Prelude.{ℕ, List, [], ◌∷◌, ◌≡◌, refl, Float, get_or}
 use Rattle.panoc_core.specs.declared.panoc_cache.Reply.{Reply}
 use Rattle.panoc_core.specs.declared.panoc_cache.Reply.TheVariants.{Number, Vector, Yes, No, Failure}
 use Rattle.factory.specs.declared.alm_factory.DPsiPhase.{DPsiPhase}
@@ -23,6 +23,13 @@ psi_phase_number P.F1 = 2
 psi_phase_number P.ProjectC = 3
 psi_phase_number P.F2 = 4
 
+pub psi_round : (p : PsiPhase) → psi_phase_of (psi_phase_number p) ≡ p
+psi_round P.Over = refl
+psi_round P.Cost = refl
+psi_round P.F1 = refl
+psi_round P.ProjectC = refl
+psi_round P.F2 = refl
+
 abbrev pub d_psi_phases : List DPsiPhase
 d_psi_phases = DP.Over ∷ DP.Gradient ∷ DP.F1 ∷ DP.ProjectC ∷ DP.Jf1t ∷ DP.F2 ∷ DP.Jf2t ∷ []
 
@@ -37,6 +44,15 @@ d_psi_phase_number DP.ProjectC = 3
 d_psi_phase_number DP.Jf1t = 4
 d_psi_phase_number DP.F2 = 5
 d_psi_phase_number DP.Jf2t = 6
+
+pub d_psi_round : (p : DPsiPhase) → d_psi_phase_of (d_psi_phase_number p) ≡ p
+d_psi_round DP.Over = refl
+d_psi_round DP.Gradient = refl
+d_psi_round DP.F1 = refl
+d_psi_round DP.ProjectC = refl
+d_psi_round DP.Jf1t = refl
+d_psi_round DP.F2 = refl
+d_psi_round DP.Jf2t = refl
 
 -- the questions have the numbers that they have in the loop; a number of none is a Jacobian product of F2
 abbrev pub question_of : ℕ → PsiQuestion

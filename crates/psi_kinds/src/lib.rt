@@ -1,64 +1,93 @@
-// The enums of psi and d_psi as numbers. Any number is read.
+// The enums of psi and d_psi as the numbers that C has for them. Any number is read.
 #![tactic(auto)]
 
 ghost use Rattle.std.specs.Prelude.{◌≡◌};
-ghost use Rattle.psi_kinds.specs.PsiKinds.{psi_phase_of, psi_phase_number, d_psi_phase_of, d_psi_phase_number, question_number, reply_of};
+ghost use Rattle.psi_kinds.specs.PsiKinds.{question_number, reply_of};
 
 use factory::alm_factory::{DPsiPhase, PsiPhase, PsiQuestion};
 use panoc_core::panoc_cache::Reply;
 
-// A number that is no phase's counts as ended.
-pub fn psi_phase_of(p: u32) -> PsiPhase
-    ensures { result ≡ psi_phase_of p }
-{
-    match p {
-        0 => PsiPhase::Over,
-        1 => PsiPhase::Cost,
-        2 => PsiPhase::F1,
-        3 => PsiPhase::ProjectC,
-        4 => PsiPhase::F2,
-        _ => PsiPhase::Over,
+// Phases by their numbers, which are those of the C interface: an impl of From would have to stand in the phases' own crate.
+pub trait Numbered: Copy {
+    ghost use Rattle.std.specs.Prelude.{ℕ};
+
+    ghost phase_of: { ℕ → Self };
+
+    ghost number_of: { Self → ℕ };
+
+    // A number that is no phase's counts as ended.
+    fn of(number: u32) -> Self
+        ensures { result ≡ phase_of number };
+
+    fn number(self) -> u32
+        ensures { result ≡ number_of self };
+
+    ghost round: { (p : Self) → phase_of (number_of p) ≡ p };
+}
+
+impl Numbered for PsiPhase {
+    ghost use Rattle.psi_kinds.specs.PsiKinds.{psi_phase_of, psi_phase_number, psi_round};
+
+    ghost phase_of = { psi_phase_of };
+
+    ghost number_of = { psi_phase_number };
+
+    ghost round = { psi_round };
+
+    fn of(number: u32) -> PsiPhase {
+        match number {
+            0 => PsiPhase::Over,
+            1 => PsiPhase::Cost,
+            2 => PsiPhase::F1,
+            3 => PsiPhase::ProjectC,
+            4 => PsiPhase::F2,
+            _ => PsiPhase::Over,
+        }
+    }
+
+    fn number(self) -> u32 {
+        match self {
+            PsiPhase::Over => 0,
+            PsiPhase::Cost => 1,
+            PsiPhase::F1 => 2,
+            PsiPhase::ProjectC => 3,
+            PsiPhase::F2 => 4,
+        }
     }
 }
 
-pub fn psi_phase_number(p: PsiPhase) -> u32
-    ensures { result ≡ psi_phase_number p }
-{
-    match p {
-        PsiPhase::Over => 0,
-        PsiPhase::Cost => 1,
-        PsiPhase::F1 => 2,
-        PsiPhase::ProjectC => 3,
-        PsiPhase::F2 => 4,
-    }
-}
+impl Numbered for DPsiPhase {
+    ghost use Rattle.psi_kinds.specs.PsiKinds.{d_psi_phase_of, d_psi_phase_number, d_psi_round};
 
-pub fn d_psi_phase_of(p: u32) -> DPsiPhase
-    ensures { result ≡ d_psi_phase_of p }
-{
-    match p {
-        0 => DPsiPhase::Over,
-        1 => DPsiPhase::Gradient,
-        2 => DPsiPhase::F1,
-        3 => DPsiPhase::ProjectC,
-        4 => DPsiPhase::Jf1t,
-        5 => DPsiPhase::F2,
-        6 => DPsiPhase::Jf2t,
-        _ => DPsiPhase::Over,
-    }
-}
+    ghost phase_of = { d_psi_phase_of };
 
-pub fn d_psi_phase_number(p: DPsiPhase) -> u32
-    ensures { result ≡ d_psi_phase_number p }
-{
-    match p {
-        DPsiPhase::Over => 0,
-        DPsiPhase::Gradient => 1,
-        DPsiPhase::F1 => 2,
-        DPsiPhase::ProjectC => 3,
-        DPsiPhase::Jf1t => 4,
-        DPsiPhase::F2 => 5,
-        DPsiPhase::Jf2t => 6,
+    ghost number_of = { d_psi_phase_number };
+
+    ghost round = { d_psi_round };
+
+    fn of(number: u32) -> DPsiPhase {
+        match number {
+            0 => DPsiPhase::Over,
+            1 => DPsiPhase::Gradient,
+            2 => DPsiPhase::F1,
+            3 => DPsiPhase::ProjectC,
+            4 => DPsiPhase::Jf1t,
+            5 => DPsiPhase::F2,
+            6 => DPsiPhase::Jf2t,
+            _ => DPsiPhase::Over,
+        }
+    }
+
+    fn number(self) -> u32 {
+        match self {
+            DPsiPhase::Over => 0,
+            DPsiPhase::Gradient => 1,
+            DPsiPhase::F1 => 2,
+            DPsiPhase::ProjectC => 3,
+            DPsiPhase::Jf1t => 4,
+            DPsiPhase::F2 => 5,
+            DPsiPhase::Jf2t => 6,
+        }
     }
 }
 

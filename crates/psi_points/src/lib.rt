@@ -1,9 +1,10 @@
 // The points of the question that a run of psi waits with.
 #![tactic(auto)]
 
+ghost use Rattle.factory.specs.declared.alm_factory.PsiBoard.{PsiBoard};
 ghost use Rattle.factory.specs.FactoryRest.{psi_rest};
 ghost use Rattle.factory.specs.FactoryCalls.{Points};
-ghost use Rattle.factory.specs.FactoryBoard.{PsiBoard, psi_run_of, psi_ut};
+ghost use Rattle.factory.specs.FactoryBoard.{run_of, psi_ut};
 
 use factory::alm_factory::points::place;
 use factory::alm_factory::start::sound;
@@ -17,20 +18,15 @@ pub fn points_in_place<'a>(
     u: &'a [f64; 64],
     t: &'a [f64; 64],
 ) -> u32
-    ensures { (b : PsiBoard) → Points (psi_rest (psi_run_of s (psi_ut u.now t.now b))) first.old first.new second.old second.new result }
+    ensures { (b : PsiBoard) → Points (psi_rest (run_of s (psi_ut u.now t.now b))) first.old first.new second.old second.new result }
 {
-    let sizes = s.sizes;
-    if sound(sizes) {
-        let phase = s.phase;
-        match phase {
-            PsiPhase::Cost => place(u, sizes.n, u, 0, first, second),
-            PsiPhase::F1 => place(u, sizes.n, u, 0, first, second),
-            PsiPhase::ProjectC => place(t, sizes.n1, t, 0, first, second),
-            PsiPhase::F2 => place(u, sizes.n, u, 0, first, second),
-            PsiPhase::Over => 6,
-        }
-    } else {
-        6
+    if !sound(s.sizes) {
+        return 6;
+    }
+    match s.phase {
+        PsiPhase::Cost | PsiPhase::F1 | PsiPhase::F2 => place(u, s.sizes.n, u, 0, first, second),
+        PsiPhase::ProjectC => place(t, s.sizes.n1, t, 0, first, second),
+        PsiPhase::Over => 6,
     }
 }
 
@@ -38,6 +34,5 @@ pub fn points_in_place<'a>(
 pub fn points(run: PsiRun, first: &mut [f64], second: &mut [f64]) -> u32
     ensures { Points (psi_rest run) first.old first.new second.old second.new result }
 {
-    let s = run.state;
-    points_in_place(s, first, second, &run.u, &run.t)
+    points_in_place(run.state, first, second, &run.board.u, &run.board.t)
 }

@@ -34,7 +34,7 @@ pub fn d_psi_told(r: &DPsiAnswered) -> Line {
                 |p, q| d_psi_points::points(run, p, q),
             )
         }
-        DPsiOutcome::Ended => alone(b"ended"),
+        DPsiOutcome::Ended(_) => alone(b"ended"),
         DPsiOutcome::Refused(number) => refused(number),
         DPsiOutcome::Failed(code) => failed(code),
     }

@@ -1,26 +1,26 @@
 use Rattle.factory.specs.declared.alm_factory.DPsiPhase.TheVariants as P
 use Rattle.std.proofs.Common.{refl}
-use Rattle.d_psi.proofs.DPsiLaws.{vector_at, vector_not_over}
-use Rattle.factory.specs.FactoryBoard.{d_psi_five}
+use Rattle.factory.specs.FactoryRuns.{vector_at, vector_not_over}
+use Rattle.factory.specs.FactoryBoard.{d_psi_five, d_psi_kind_at}
 use Rattle.d_psi.proofs.on_vector.Goals as goal
 
 pub on_gradient-requires : goal.on_gradient-requires
-on_gradient-requires c = vector_at c.args.s _ c.requires P.Gradient _ c.in-Gradient.is refl
+on_gradient-requires c = vector_at d_psi_kind_at c.args.s _ c.requires P.Gradient c.in-Gradient.is _ refl
 
 pub on_f1-requires : goal.on_f1-requires
-on_f1-requires c = vector_at c.args.s _ c.requires P.F1 _ c.in-F1.is refl
+on_f1-requires c = vector_at d_psi_kind_at c.args.s _ c.requires P.F1 c.in-F1.is _ refl
 
 pub on_project_c-requires : goal.on_project_c-requires
-on_project_c-requires c = vector_at c.args.s _ c.requires P.ProjectC _ c.in-ProjectC.is refl
+on_project_c-requires c = vector_at d_psi_kind_at c.args.s _ c.requires P.ProjectC c.in-ProjectC.is _ refl
 
 pub on_jf1t-requires : goal.on_jf1t-requires
-on_jf1t-requires c = vector_at c.args.s _ c.requires P.Jf1t _ c.in-Jf1t.is refl
+on_jf1t-requires c = vector_at d_psi_kind_at c.args.s _ c.requires P.Jf1t c.in-Jf1t.is _ refl
 
 pub on_f2-requires : goal.on_f2-requires
-on_f2-requires c = vector_at c.args.s _ c.requires P.F2 _ c.in-F2.is refl
+on_f2-requires c = vector_at d_psi_kind_at c.args.s _ c.requires P.F2 c.in-F2.is _ refl
 
 pub on_jf2t-requires : goal.on_jf2t-requires
-on_jf2t-requires c = vector_at c.args.s _ c.requires P.Jf2t _ c.in-Jf2t.is refl
+on_jf2t-requires c = vector_at d_psi_kind_at c.args.s _ c.requires P.Jf2t c.in-Jf2t.is _ refl
 
 pub returns-in-Gradient : goal.returns-in-Gradient
 returns-in-Gradient c = λ b. c.on_gradient.ensures (d_psi_five c.args.y.now c.args.gradient.now c.args.t.now c.args.d.now c.args.work.now b)
@@ -41,4 +41,4 @@ pub returns-in-Jf2t : goal.returns-in-Jf2t
 returns-in-Jf2t c = λ b. c.on_jf2t.ensures (d_psi_five c.args.y.now c.args.gradient.now c.args.t.now c.args.d.now c.args.work.now b)
 
 pub returns-in-Over : goal.returns-in-Over
-returns-in-Over c = absurd (vector_not_over c.args.s _ c.requires c.in-Over.is)
+returns-in-Over c = absurd (vector_not_over d_psi_kind_at c.args.s _ c.requires P.Over c.in-Over.is refl)

@@ -1,3 +1,4 @@
+use Rattle.std.proofs.Common.{⊎_elim}
 use Rattle.d_psi.proofs.DPsiLaws.{vector_accepted, number_refused, yes_refused, no_refused, took_vector, took_failure}
 use Rattle.factory.specs.FactoryBoard.{d_psi_five}
 use Rattle.d_psi.proofs.step.Goals as goal
@@ -12,10 +13,4 @@ pub returns-in-Failure : goal.returns-in-Failure
 returns-in-Failure c = λ b. took_failure c.args.s (d_psi_five c.args.y.now c.args.gradient.now c.args.t.now c.args.d.now c.args.work.now b) c.args.a c.args.v.now _ _ c.in-Failure.is c.requires c.to.ensures
 
 pub returns-in-Number : goal.returns-in-Number
-returns-in-Number c = absurd (number_refused c.args.s _ _ c.requires _ c.in-Number.is)
-
-pub returns-in-Yes : goal.returns-in-Yes
-returns-in-Yes c = absurd (yes_refused c.args.s _ _ c.requires c.in-Yes.is)
-
-pub returns-in-No : goal.returns-in-No
-returns-in-No c = absurd (no_refused c.args.s _ _ c.requires c.in-No.is)
+returns-in-Number c = absurd (⊎_elim (λ w. number_refused c.args.s _ _ c.requires w.0 w.1) (⊎_elim (yes_refused c.args.s _ _ c.requires) (no_refused c.args.s _ _ c.requires)) c.in-Number.is)

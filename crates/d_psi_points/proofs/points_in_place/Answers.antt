@@ -1,47 +1,47 @@
-use Rattle.std.proofs.Common.{arith, sym, ◌∙◌}
-use Rattle.factory.specs.FactoryLaws.{sound_n, sound_n1, sound_n2}
-use Rattle.d_psi_points.proofs.PointLaws.{gradient_points, f1_points, c_points, jf1_points, f2_points, jf2_points, over_points, wild_points}
+use Rattle.std.proofs.Common.{arith, refl, sym, ◌∙◌, ⊎_elim}
+use Rattle.matrix_operations.specs.Firsts.{firsts}
+use Rattle.factory.specs.declared.alm_factory.DPsiPhase.TheVariants as P
+use Rattle.factory.specs.FactoryRest.{d_psi_resume}
 use Rattle.factory.specs.FactoryBoard.{d_psi_utd}
+use Rattle.factory.specs.FactoryLaws.{sound_n, sound_n1, sound_n2}
+use Rattle.factory.specs.FactoryRuns.{points_at, points_over, points_wild}
 use Rattle.d_psi_points.proofs.points_in_place.Goals as goal
 
 pub place-requires : goal.place-requires
-place-requires c = (sound_n c.args.s.sizes (sym c.sound.ensures ∙ c.if-sound.true), omega arith)
-
-pub place-requires-in-F1 : goal.place-requires-in-F1
-place-requires-in-F1 c = (sound_n c.args.s.sizes (sym c.sound.ensures ∙ c.if-sound.true), omega arith)
+place-requires c = (sound_n c.args.s.sizes (sym c.sound.ensures ∙ c.if-not-sound.false), omega arith)
 
 pub place-requires-in-ProjectC : goal.place-requires-in-ProjectC
-place-requires-in-ProjectC c = (omega (arith, sound_n1 c.args.s.sizes (sym c.sound.ensures ∙ c.if-sound.true)), omega arith)
+place-requires-in-ProjectC c = (omega (arith, sound_n1 c.args.s.sizes (sym c.sound.ensures ∙ c.if-not-sound.false)), omega arith)
 
 pub place-requires-in-Jf1t : goal.place-requires-in-Jf1t
-place-requires-in-Jf1t c = (sound_n c.args.s.sizes (sym c.sound.ensures ∙ c.if-sound.true), omega (arith, sound_n1 c.args.s.sizes (sym c.sound.ensures ∙ c.if-sound.true)))
-
-pub place-requires-in-F2 : goal.place-requires-in-F2
-place-requires-in-F2 c = (sound_n c.args.s.sizes (sym c.sound.ensures ∙ c.if-sound.true), omega arith)
+place-requires-in-Jf1t c = (sound_n c.args.s.sizes (sym c.sound.ensures ∙ c.if-not-sound.false), omega (arith, sound_n1 c.args.s.sizes (sym c.sound.ensures ∙ c.if-not-sound.false)))
 
 pub place-requires-in-Jf2t : goal.place-requires-in-Jf2t
-place-requires-in-Jf2t c = (sound_n c.args.s.sizes (sym c.sound.ensures ∙ c.if-sound.true), omega (arith, sound_n2 c.args.s.sizes (sym c.sound.ensures ∙ c.if-sound.true)))
+place-requires-in-Jf2t c = (sound_n c.args.s.sizes (sym c.sound.ensures ∙ c.if-not-sound.false), omega (arith, sound_n2 c.args.s.sizes (sym c.sound.ensures ∙ c.if-not-sound.false)))
 
 pub returns-in-Gradient : goal.returns-in-Gradient
-returns-in-Gradient c = λ b. gradient_points c.args.s (d_psi_utd c.args.u.now c.args.t.now c.args.d.now b) c.args.first.now _ c.args.second.now _ _ (sym c.sound.ensures ∙ c.if-sound.true) _ c.in-Gradient.is c.place.ensures
-
-pub returns-in-F1 : goal.returns-in-F1
-returns-in-F1 c = λ b. f1_points c.args.s (d_psi_utd c.args.u.now c.args.t.now c.args.d.now b) c.args.first.now _ c.args.second.now _ _ (sym c.sound.ensures ∙ c.if-sound.true) _ c.in-F1.is c.place-in-F1.ensures
+unfolding d_psi_resume firsts
+returns-in-Gradient c = λ b.
+    ⊎_elim (λ e. points_at d_psi_resume c.args.s (d_psi_utd c.args.u.now c.args.t.now c.args.d.now b) P.Gradient _ _ _ _ _ _ _ _ (sym c.sound.ensures ∙ c.if-not-sound.false) e refl c.place.ensures)
+    (⊎_elim (λ e. points_at d_psi_resume c.args.s (d_psi_utd c.args.u.now c.args.t.now c.args.d.now b) P.F1 _ _ _ _ _ _ _ _ (sym c.sound.ensures ∙ c.if-not-sound.false) e refl c.place.ensures)
+    (λ e. points_at d_psi_resume c.args.s (d_psi_utd c.args.u.now c.args.t.now c.args.d.now b) P.F2 _ _ _ _ _ _ _ _ (sym c.sound.ensures ∙ c.if-not-sound.false) e refl c.place.ensures))
+    c.in-Gradient.is
 
 pub returns-in-ProjectC : goal.returns-in-ProjectC
-returns-in-ProjectC c = λ b. c_points c.args.s (d_psi_utd c.args.u.now c.args.t.now c.args.d.now b) c.args.first.now _ c.args.second.now _ _ (sym c.sound.ensures ∙ c.if-sound.true) _ c.in-ProjectC.is c.place-in-ProjectC.ensures
+unfolding d_psi_resume firsts
+returns-in-ProjectC c = λ b. points_at d_psi_resume c.args.s (d_psi_utd c.args.u.now c.args.t.now c.args.d.now b) P.ProjectC _ _ _ _ _ _ _ _ (sym c.sound.ensures ∙ c.if-not-sound.false) c.in-ProjectC.is refl c.place-in-ProjectC.ensures
 
 pub returns-in-Jf1t : goal.returns-in-Jf1t
-returns-in-Jf1t c = λ b. jf1_points c.args.s (d_psi_utd c.args.u.now c.args.t.now c.args.d.now b) c.args.first.now _ c.args.second.now _ _ (sym c.sound.ensures ∙ c.if-sound.true) c.in-Jf1t.is c.place-in-Jf1t.ensures
-
-pub returns-in-F2 : goal.returns-in-F2
-returns-in-F2 c = λ b. f2_points c.args.s (d_psi_utd c.args.u.now c.args.t.now c.args.d.now b) c.args.first.now _ c.args.second.now _ _ (sym c.sound.ensures ∙ c.if-sound.true) _ c.in-F2.is c.place-in-F2.ensures
+unfolding d_psi_resume firsts
+returns-in-Jf1t c = λ b. points_at d_psi_resume c.args.s (d_psi_utd c.args.u.now c.args.t.now c.args.d.now b) P.Jf1t _ _ _ _ _ _ _ _ (sym c.sound.ensures ∙ c.if-not-sound.false) c.in-Jf1t.is refl c.place-in-Jf1t.ensures
 
 pub returns-in-Jf2t : goal.returns-in-Jf2t
-returns-in-Jf2t c = λ b. jf2_points c.args.s (d_psi_utd c.args.u.now c.args.t.now c.args.d.now b) c.args.first.now _ c.args.second.now _ _ (sym c.sound.ensures ∙ c.if-sound.true) c.in-Jf2t.is c.place-in-Jf2t.ensures
+unfolding d_psi_resume firsts
+returns-in-Jf2t c = λ b. points_at d_psi_resume c.args.s (d_psi_utd c.args.u.now c.args.t.now c.args.d.now b) P.Jf2t _ _ _ _ _ _ _ _ (sym c.sound.ensures ∙ c.if-not-sound.false) c.in-Jf2t.is refl c.place-in-Jf2t.ensures
 
 pub returns-in-Over : goal.returns-in-Over
-returns-in-Over c = λ b. over_points c.args.s (d_psi_utd c.args.u.now c.args.t.now c.args.d.now b) c.args.first.now c.args.second.now c.in-Over.is
+unfolding d_psi_resume
+returns-in-Over c = λ b. points_over d_psi_resume c.args.s (d_psi_utd c.args.u.now c.args.t.now c.args.d.now b) P.Over c.args.first.now c.args.second.now c.in-Over.is refl
 
-pub returns-else-sound : goal.returns-else-sound
-returns-else-sound c = λ b. wild_points c.args.s (d_psi_utd c.args.u.now c.args.t.now c.args.d.now b) c.args.first.now c.args.second.now (sym c.sound.ensures ∙ c.if-sound.false)
+pub returns-then-not-sound : goal.returns-then-not-sound
+returns-then-not-sound c = λ b. points_wild d_psi_resume c.args.s (d_psi_utd c.args.u.now c.args.t.now c.args.d.now b) c.args.first.now c.args.second.now (sym c.sound.ensures ∙ c.if-not-sound.true)

@@ -1,22 +1,24 @@
-// What a start of psi or d_psi tests: the table's 1 and 2; and the sizes of a run that a start made.
+// A start of psi or d_psi: what it tests, the table's 1 and 2, and the run that it begins.
 ghost use Rattle.std.specs.Prelude.{◌≡◌};
 ghost use Rattle.model.specs.Refusals.{psi_refusal};
 ghost use Rattle.factory.specs.FactoryValues.{sizes_of};
 ghost use Rattle.factory.specs.FactoryRest.{sound_sizes};
+ghost use Rattle.factory.specs.FactoryCalls.{Starts};
+ghost use Rattle.factory.specs.FactoryBoard.{gave};
 
-use crate::alm_factory::Sizes;
+use crate::alm_factory::penalty::Penalty;
+use crate::alm_factory::steps::refuses;
+use crate::alm_factory::{PsiQuestion, Run, Sizes, State};
+use panoc_core::outcome::{Answered, Outcome, Stepped};
 use start_sizes::{mappings_right, sizes_right};
+use start_tests::{multipliers_in, penalty_in};
 
 // Sizes for which the arrays are long enough, as those of a run that a start made are.
+#[tactic(auto, unfolding(crate::specs::FactoryRest::sound_sizes))]
 pub fn sound(s: Sizes) -> bool
     ensures { result ≡ sound_sizes s }
 {
-    if s.n <= 64 {
-        if s.n1 <= 32 {
-            return s.n2 <= 32;
-        }
-    }
-    false
+    s.n <= 64 && s.n1 <= 32 && s.n2 <= 32
 }
 
 // The number by which a start is refused, 0 for none; us and xis are the lengths of u and xi.
@@ -31,5 +33,59 @@ pub fn start_refusal(s: Sizes, us: usize, xis: usize) -> u32
         }
     } else {
         1
+    }
+}
+
+// A run in place that is begun at a lent u and xi, or its refusal.
+pub fn start_in_place<P: Penalty>(
+    sizes: Sizes,
+    at: &[f64],
+    xi: &[f64],
+    u: &mut [f64; 64],
+    y: &mut [f64; 64],
+) -> Stepped<Outcome<PsiQuestion, P::Value>, State<P, P::Value>>
+    ensures { (b : P.Board) → Starts P.tells P.resume P.begun sizes at.now xi.now (gave result (P.with_uy u.new y.new b)) }
+{
+    let number = start_refusal(sizes, at.len(), xi.len());
+    if number == 0 {
+        vector_copies::take_into(at, u);
+        multipliers_in(xi, y);
+        Stepped {
+            outcome: Outcome::Asked(P::asks_first()),
+            state: State {
+                phase: P::first(),
+                sizes,
+                c: penalty_in(xi),
+                value: P::nothing(),
+            },
+        }
+    } else {
+        let state = State {
+            phase: P::over(),
+            sizes,
+            c: 0.0,
+            value: P::nothing(),
+        };
+        refuses(state, number)
+    }
+}
+
+// A run by value that is begun at a lent u and xi, or its refusal.
+pub fn start<P: Penalty>(
+    sizes: Sizes,
+    at: &[f64],
+    xi: &[f64],
+) -> Answered<Outcome<PsiQuestion, P::Value>, Run<State<P, P::Value>, P::Board>>
+    ensures { Starts P.tells P.resume P.begun sizes at.now xi.now result }
+{
+    let mut u = vector_copies::zeros();
+    let mut y = vector_copies::zeros();
+    let r = start_in_place::<P>(sizes, at, xi, &mut u, &mut y);
+    Answered {
+        outcome: r.outcome,
+        run: Run {
+            state: r.state,
+            board: P::board(u, y),
+        },
     }
 }

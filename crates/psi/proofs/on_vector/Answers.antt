@@ -1,17 +1,18 @@
 use Rattle.factory.specs.declared.alm_factory.PsiPhase.TheVariants as P
 use Rattle.std.proofs.Common.{refl}
-use Rattle.psi.proofs.PsiLaws.{vector_at, vector_not_cost, vector_not_over}
-use Rattle.factory.specs.FactoryBoard.{psi_ytw}
+use Rattle.psi.proofs.PsiLaws.{vector_not_cost}
+use Rattle.factory.specs.FactoryRuns.{vector_at, vector_not_over}
+use Rattle.factory.specs.FactoryBoard.{psi_ytw, psi_kind_at}
 use Rattle.psi.proofs.on_vector.Goals as goal
 
 pub on_f1-requires : goal.on_f1-requires
-on_f1-requires c = vector_at c.args.s _ c.requires P.F1 _ c.in-F1.is refl
+on_f1-requires c = vector_at psi_kind_at c.args.s _ c.requires P.F1 c.in-F1.is _ refl
 
 pub on_project_c-requires : goal.on_project_c-requires
-on_project_c-requires c = vector_at c.args.s _ c.requires P.ProjectC _ c.in-ProjectC.is refl
+on_project_c-requires c = vector_at psi_kind_at c.args.s _ c.requires P.ProjectC c.in-ProjectC.is _ refl
 
 pub on_f2-requires : goal.on_f2-requires
-on_f2-requires c = vector_at c.args.s _ c.requires P.F2 _ c.in-F2.is refl
+on_f2-requires c = vector_at psi_kind_at c.args.s _ c.requires P.F2 c.in-F2.is _ refl
 
 pub returns-in-F1 : goal.returns-in-F1
 returns-in-F1 c = λ b. c.on_f1.ensures b
@@ -26,4 +27,4 @@ pub returns-in-Cost : goal.returns-in-Cost
 returns-in-Cost c = absurd (vector_not_cost c.args.s _ c.requires c.in-Cost.is)
 
 pub returns-in-Over : goal.returns-in-Over
-returns-in-Over c = absurd (vector_not_over c.args.s _ c.requires c.in-Over.is)
+returns-in-Over c = absurd (vector_not_over psi_kind_at c.args.s _ c.requires P.Over c.in-Over.is refl)

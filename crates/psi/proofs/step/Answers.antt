@@ -1,3 +1,4 @@
+use Rattle.std.proofs.Common.{⊎_elim}
 use Rattle.psi.proofs.PsiLaws.{cost_phase, vector_accepted, yes_not, no_not, took_number, took_vector, took_failure}
 use Rattle.factory.specs.FactoryBoard.{psi_ytw}
 use Rattle.psi.proofs.step.Goals as goal
@@ -18,7 +19,4 @@ pub returns-in-Failure : goal.returns-in-Failure
 returns-in-Failure c = λ b. took_failure c.args.s (psi_ytw c.args.y.now c.args.t.now c.args.work.now b) c.args.a c.args.v.now _ _ c.in-Failure.is c.requires c.to.ensures
 
 pub returns-in-Yes : goal.returns-in-Yes
-returns-in-Yes c = absurd (yes_not c.args.s _ _ _ c.requires c.in-Yes.is)
-
-pub returns-in-No : goal.returns-in-No
-returns-in-No c = absurd (no_not c.args.s _ _ _ c.requires c.in-No.is)
+returns-in-Yes c = absurd (⊎_elim (yes_not c.args.s _ _ _ c.requires) (no_not c.args.s _ _ _ c.requires) c.in-Yes.is)

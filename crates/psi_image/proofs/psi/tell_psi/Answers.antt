@@ -1,14 +1,19 @@
-use Rattle.psi_image.proofs.Laws.{psi_asked, psi_ended_lem, psi_refused, psi_failed}
+use Rattle.std.proofs.Common.{refl, sym, ◌∙◌}
+use Rattle.std.specs.Prelude.{◌≡◌, Float}
+use Rattle.factory.specs.FactoryValues.{PsiOutcome}
+use Rattle.panoc_core.specs.declared.outcome.Outcome.TheVariants.{Ended}
+use Rattle.psi_image.proofs.psi.tell_psi.Goals.{in-Ended, in_default}
 use Rattle.psi_image.proofs.psi.tell_psi.Goals as goal
 
-pub returns-in-Asked : goal.returns-in-Asked
-returns-in-Asked c = psi_asked _ _ c.args.w.now _ c.args.f.now c.note.ensures _ c.in-Asked.is c.question_number.ensures
+same : (o : PsiOutcome) (x y : Float) → o ≡ Ended x → o ≡ Ended y → x ≡ y
+same o x y e h = by x y (sym e ∙ h)
+  where
+    by : (a b : Float) → ◌≡◌ {A = PsiOutcome} (Ended a) (Ended b) → a ≡ b
+    by a b q = cc
 
-pub returns-in-Ended : goal.returns-in-Ended
-returns-in-Ended c = psi_ended_lem _ _ c.args.w.now _ c.args.f.now c.note-in-Ended.ensures _ _ c.in-Ended.is c.note_psi.ensures
-
-pub returns-in-Refused : goal.returns-in-Refused
-returns-in-Refused c = psi_refused _ _ c.args.w.now _ c.args.f.now c.note-in-Refused.ensures c.in-Refused.is
-
-pub returns-in-Failed : goal.returns-in-Failed
-returns-in-Failed c = psi_failed _ _ c.args.w.now _ c.args.f.now c.note-in-Failed.ensures c.in-Failed.is
+pub returns : goal.returns
+returns c =
+    elim c.match-o.branch [
+      | in-Ended w ↦ rw w.f-is (λ k. rw c.tell.ensures.0 refl, c.tell.ensures.1 _ (λ y e. same _ _ y w.o-is e) ∙ w.o-is ∙ sym w.in-Ended.is)
+      | in_default w ↦ rw w.f-is (λ k. rw c.tell.ensures.0 refl, c.tell.ensures.1 _ (λ y e. absurd (w.in_default.not-Ended y (sym w.o-is ∙ e))) ∙ w.o-is)
+    ]

@@ -1,0 +1,58 @@
+// What the lent numbers of psi and of d_psi have alike: w and k.
+ghost use Rattle.std.specs.Prelude.{◌≡◌, get_or};
+ghost use Rattle.psi_image.specs.PsiImage.{sizes_of, noted, Told};
+
+use factory::alm_factory::{PsiQuestion, Sizes, State};
+use panoc_core::outcome::Outcome;
+use psi_kinds::{Numbered, question_number};
+
+// The sizes that the lent numbers stand for.
+pub fn sizes_of(k: &[usize; 3]) -> Sizes
+    ensures { result ≡ sizes_of k.now }
+{
+    Sizes {
+        n: k[0],
+        n1: k[1],
+        n2: k[2],
+    }
+}
+
+// The phase and the sizes of a run into the lent numbers.
+pub fn keep<P: Numbered, V: Copy>(s: State<P, V>, w: &mut [u32; 2], k: &mut [usize; 3])
+    ensures phase { P.phase_of (get_or w.new 0 0) ≡ s.phase }
+    ensures sizes { sizes_of k.new ≡ s.sizes }
+{
+    *w = [s.phase.number(), w[1]];
+    *k = [s.sizes.n, s.sizes.n1, s.sizes.n2];
+}
+
+// The number that a call tells: a question's, a refusal's, a code.
+fn note(number: u32, w: &mut [u32; 2])
+    ensures { w.new ≡ noted number w.old }
+{
+    *w = [w[0], number];
+}
+
+// What a call has told, but for the value of an end, into the lent numbers; its kind is the result.
+pub fn tell<E: Copy>(o: Outcome<PsiQuestion, E>, w: &mut [u32; 2]) -> u32
+    ensures { Told o result w.old w.new }
+{
+    match o {
+        Outcome::Asked(q) => {
+            note(question_number(q), w);
+            0
+        }
+        Outcome::Ended(_) => {
+            note(0, w);
+            1
+        }
+        Outcome::Refused(number) => {
+            note(number, w);
+            2
+        }
+        Outcome::Failed(code) => {
+            note(code, w);
+            3
+        }
+    }
+}

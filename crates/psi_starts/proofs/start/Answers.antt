@@ -1,4 +1,0 @@
-use Rattle.psi_starts.proofs.start.Goals as goal
-
-pub returns : goal.returns
-returns c = c.start_in_place-r.ensures (record { u = c.zeros-u.result; y = c.zeros-y.result; t = c.zeros-t.result; work = c.zeros-work.result })
