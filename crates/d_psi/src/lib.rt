@@ -186,7 +186,7 @@ pub fn answer_in_place(
     }
 }
 
-// An answer to the question of a run by value.
+// An answer to the question of a run by value. Beside that of psi, which is lent no result.
 pub fn answer(run: DPsiRun, a: Reply, v: &[f64], res: &mut [f64]) -> DPsiAnswered
     ensures { DPsiAnswers run a v.now res.old res.new result }
 {

@@ -10,6 +10,7 @@ use factory::alm_factory::points::place;
 use factory::alm_factory::start::sound;
 use factory::alm_factory::{DPsiPhase, DPsiRun, DPsiState};
 
+// Beside that of psi, since the phases, the lent vectors and the second points are others.
 // The points of the question of a run in place, into first and, for a product, second.
 pub fn points_in_place<'a>(
     s: DPsiState,

@@ -142,7 +142,7 @@ pub fn answer_in_place(
     }
 }
 
-// An answer to the question of a run by value.
+// An answer to the question of a run by value. Beside that of d_psi, which is lent a result.
 pub fn answer(run: PsiRun, a: Reply, v: &[f64]) -> PsiAnswered
     ensures { PsiAnswers run a v.now result }
 {

@@ -10,6 +10,7 @@ use factory::alm_factory::points::place;
 use factory::alm_factory::start::sound;
 use factory::alm_factory::{PsiPhase, PsiRun, PsiState};
 
+// Beside that of d_psi, since the phases, the lent vectors and the second points are others.
 // The point of the question of a run in place, into first; no question of psi has a second.
 pub fn points_in_place<'a>(
     s: PsiState,
