@@ -12,7 +12,7 @@ fn reply(given: Given) -> Reply {
         Given::Vector => Reply::Vector,
         Given::Yes => Reply::Yes,
         Given::No => Reply::No,
-        Given::Failure(code) => Reply::Failure((code % 4294967296) as u32),
+        Given::Failure(code) => Reply::Failure(code),
     }
 }
 

@@ -5,7 +5,7 @@ mod answers;
 mod reading;
 
 use answers::answered;
-use line_starts::command::Command;
+use line_starts::command::{Command, Said};
 use reading::{heard, next};
 use std::io;
 use std::io::{BufReader, BufWriter, Write};
@@ -15,7 +15,7 @@ use transcript_state::Play;
 
 // What a line says is done; gives what is printed of it.
 fn turn(play: &mut Play, line: &[u8]) -> Line {
-    let Some((command, u, xi)) = heard(line) else {
+    let Some(Said { command, first: u, second: xi }) = heard(line) else {
         return alone(b"bad");
     };
     let (next, told) = match command {
@@ -24,9 +24,8 @@ fn turn(play: &mut Play, line: &[u8]) -> Line {
         Command::Psi(set) => psi(set, u, xi),
         Command::DPsi(set) => d_psi(set, u, xi),
         Command::Answer(given) => return answered(play, given, u.as_slice()),
-        Command::Lend(us, xis) => return play.lend(us as usize, xis as usize),
+        Command::Lend(us, xis) => return play.lend(us, xis),
         Command::Show => return play.show(),
-        Command::Bad => return alone(b"bad"),
     };
     *play = next;
     told

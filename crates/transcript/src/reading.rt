@@ -1,9 +1,8 @@
 // The next line of the input, and what a line says.
-use line_starts::command::Command;
+use line_starts::command::Said;
 use script::said;
 use std::io;
 use std::io::{BufRead, Read};
-use transcript_state::Lent;
 
 // A line has no more bytes.
 const LONGEST: usize = 4096;
@@ -23,22 +22,7 @@ pub fn next(input: &mut impl BufRead, line: &mut Vec<u8>) -> io::Result<bool> {
     Ok(!line.is_empty())
 }
 
-// What a line says, with the floats that are u or a vector and those that are xi; of another form is one that is too long, too.
-pub fn heard(line: &[u8]) -> Option<(Command, Lent, Lent)> {
-    if line.len() > LONGEST {
-        return None;
-    }
-    let mut v = [0.0; 128];
-    let mut w = [0.0; 128];
-    let said = said(line, &mut v, &mut w);
-    let u = lent(&v, said.first);
-    let xi = lent(&w, said.second);
-    Some((said.command, u, xi))
-}
-
-// The first places of an array.
-fn lent(v: &[f64; 128], places: usize) -> Lent {
-    let mut lent = Lent::from(*v);
-    lent.truncate(places);
-    lent
+// What a line says; of another form is one that is too long, too.
+pub fn heard(line: &[u8]) -> Option<Said<128, 128>> {
+    if line.len() > LONGEST { None } else { said::<128, 128>(line) }
 }

@@ -3,7 +3,6 @@ use alm_core::alm_cache::AlmSettings;
 use factory::alm_factory::Sizes;
 use line_starts::command::{InnerStart, LoopStart, PsiStart};
 use panoc_core::panoc_cache::{AkktTolerance, Settings};
-use word_values::Tolerance;
 
 // The settings of an inner solve.
 pub fn inner_settings(s: InnerStart) -> Settings {
@@ -13,8 +12,8 @@ pub fn inner_settings(s: InnerStart) -> Settings {
         limited: s.limited,
         tolerance: s.tolerance,
         akkt_tolerance: match s.akkt {
-            Tolerance::Set(x) => AkktTolerance::Set(x),
-            Tolerance::Missing | Tolerance::Other => AkktTolerance::Missing,
+            Some(x) => AkktTolerance::Set(x),
+            None => AkktTolerance::Missing,
         },
     }
 }
