@@ -33,7 +33,7 @@ use Rattle.panoc_core.specs.declared.panoc_cache.Reply.TheVariants.{Number, Vect
 use Rattle.panoc_core.specs.declared.panoc_cache.Phase.{Phase}
 use Rattle.panoc_core.specs.declared.panoc_cache.Phase.TheVariants as IP
 use Rattle.panoc_core.specs.declared.panoc_cache.Settings.{Settings}
-use Rattle.panoc_core.specs.declared.panoc_cache.AkktTolerance.TheVariants as A
+use Rattle.std.specs.Prelude.{Some}
 use Rattle.panoc_core.specs.declared.panoc_cache.ExitStatus.TheVariants as E
 use Rattle.panoc_core.specs.declared.panoc_cache.Solve.{Solve}
 use Rattle.panoc_core.specs.declared.panoc_cache.Stepped.{Stepped}
@@ -662,6 +662,6 @@ pub starts : (s : AlmSettings) (us xi : List Float) (r : AlmStepped) (u y z : Li
 starts s us xi r u y z f b = record { settings = (f b).settings; outcome = (f b).outcome; process = (f b).process }
 
 -- the small part before the first iteration
-pub first_is : (s : AlmSettings) (c : Float) (l : ℕ) (w : Solve) → w ≡ InnerBoard.begun (record { n = s.n; max_iter = s.max_inner_iterations; limited = s.limited; tolerance = s.tolerance; akkt_tolerance = A.Set s.initial_inner_tolerance })
+pub first_is : (s : AlmSettings) (c : Float) (l : ℕ) (w : Solve) → w ≡ InnerBoard.begun (record { n = s.n; max_iter = s.max_inner_iterations; limited = s.limited; tolerance = s.tolerance; akkt_tolerance = Some s.initial_inner_tolerance })
     → ◌≡◌ {A = Alm} (record { phase = P.Over; set = s; numbers = (first_alm s c l).numbers; left = l; outer = record { 0 = 0 }; inner = record { 0 = 0 }; found = record { 0 = 0 }; status = E.Converged; solve = w }) (first_alm s c l)
 first_is s c l w e = ap (λ (z : Solve). record { phase = P.Over; set = s; numbers = (first_alm s c l).numbers; left = l; outer = record { 0 = 0 }; inner = record { 0 = 0 }; found = record { 0 = 0 }; status = E.Converged; solve = z }) e

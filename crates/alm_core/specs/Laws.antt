@@ -30,7 +30,7 @@ use Rattle.panoc_core.specs.declared.panoc_cache.ExitStatus.{ExitStatus}
 use Rattle.panoc_core.specs.declared.panoc_cache.ExitStatus.TheVariants as E
 use Rattle.panoc_core.specs.declared.panoc_cache.Reply.TheVariants.{Number, Vector}
 use Rattle.panoc_core.specs.declared.panoc_cache.Settings.{Settings}
-use Rattle.panoc_core.specs.declared.panoc_cache.AkktTolerance.TheVariants as A
+use Rattle.std.specs.Prelude.{Some}
 use Rattle.panoc_core.specs.declared.panoc_cache.Question.TheVariants as IQ
 use Rattle.panoc_core.specs.declared.panoc_cache.Outcome.TheVariants as IO
 use Rattle.panoc_core.specs.declared.panoc_cache.SolverStatus.{SolverStatus}
@@ -209,7 +209,7 @@ module _ (s : Alm) (b : LoopBoard) (r : AlmStepped) where
 
   -- an inner run that begins at u
   abbrev inner_set : Settings
-  inner_set = record { n = s.set.n; max_iter = s.set.max_inner_iterations; limited = s.set.limited; tolerance = s.set.tolerance; akkt_tolerance = A.Set s.numbers.akkt_tolerance }
+  inner_set = record { n = s.set.n; max_iter = s.set.max_inner_iterations; limited = s.set.limited; tolerance = s.set.tolerance; akkt_tolerance = Some s.numbers.akkt_tolerance }
 
   abbrev with_solve : Solve → Alm
   with_solve w = record { phase = s.phase; set = s.set; numbers = s.numbers; left = s.left; outer = s.outer; inner = s.inner; found = s.found; status = s.status; solve = w }

@@ -5,7 +5,7 @@ ghost use Rattle.std.specs.Prelude.{◌≡◌};
 ghost use Rattle.alm_calls.specs.LoopCalls.{first_alm};
 
 use alm_core::alm_cache::{Alm, AlmNumbers, AlmPhase, AlmSettings, OuterIterations};
-use panoc_core::panoc_cache::{AkktTolerance, ExitStatus, InnerIterations, Settings};
+use panoc_core::panoc_cache::{ExitStatus, InnerIterations, Settings};
 
 // The small part of a run before its first outer iteration, with so many left after it.
 pub fn first(set: AlmSettings, penalty: f64, left: usize) -> Alm
@@ -16,7 +16,7 @@ pub fn first(set: AlmSettings, penalty: f64, left: usize) -> Alm
         max_iter: set.max_inner_iterations,
         limited: set.limited,
         tolerance: set.tolerance,
-        akkt_tolerance: AkktTolerance::Set(set.initial_inner_tolerance),
+        akkt_tolerance: Some(set.initial_inner_tolerance),
     };
     let numbers = AlmNumbers {
         penalty,

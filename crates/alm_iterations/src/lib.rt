@@ -9,14 +9,14 @@ ghost use Rattle.alm_core.specs.Board.{Ready, Closing, Comes, set_of};
 
 use alm_core::alm_cache::{Alm, AlmPhase, AlmQuestion, AlmStepped};
 use alm_core::alm_steps::{asks, conclude};
-use panoc_core::panoc_cache::{AkktTolerance, ExitStatus, Question, Settings};
+use panoc_core::panoc_cache::{ExitStatus, Question, Settings};
 
 // An inner solve begins at u.
 pub fn inner_solve(s: Alm) -> AlmStepped
     requires { Ready s }
     ensures { (b : LoopBoard) → Comes s.set (L.inner_solve binary64 (set_of s) (next_of s b) (state_of s b)) result b }
 {
-    let akkt_tolerance = AkktTolerance::Set(s.numbers.akkt_tolerance);
+    let akkt_tolerance = Some(s.numbers.akkt_tolerance);
     let set = Settings {
         n: s.set.n,
         max_iter: s.set.max_inner_iterations,

@@ -4,8 +4,7 @@ use Rattle.std.proofs.Math.Option.{Option, none, some}
 use Rattle.std.specs.Float.{binary64, nan}
 use Rattle.std.specs.Float.Ieee.{of_bits}
 use Rattle.model.specs.Process.{Kind}
-use Rattle.panoc_core.specs.declared.panoc_cache.AkktTolerance.{AkktTolerance}
-use Rattle.panoc_core.specs.declared.panoc_cache.AkktTolerance.TheVariants.{Missing, Set}
+use Rattle.std.specs.Prelude as Std
 use Rattle.panoc_core.specs.declared.panoc_cache.ExitStatus.{ExitStatus}
 use Rattle.panoc_core.specs.declared.panoc_cache.ExitStatus.TheVariants.{Converged, NotConvergedIterations, NotConvergedOutOfTime}
 use Rattle.panoc_core.specs.declared.panoc_cache.Numbers.{Numbers}
@@ -71,16 +70,16 @@ abbrev pub flag_number : Bool → ℕ
 flag_number b = cond b 1 0
 
 -- an AKKT tolerance, where one is set
-abbrev pub akkt_of : ℕ → Float → AkktTolerance
-akkt_of set t = cond (eqb set 0) Missing (Set t)
+abbrev pub akkt_of : ℕ → Float → Std.Option Float
+akkt_of set t = cond (eqb set 0) Std.None (Std.Some t)
 
-abbrev pub akkt_set : AkktTolerance → ℕ
-akkt_set Missing = 0
-akkt_set (Set t) = 1
+abbrev pub akkt_set : Std.Option Float → ℕ
+akkt_set Std.None = 0
+akkt_set (Std.Some t) = 1
 
-abbrev pub akkt_value : AkktTolerance → Float
-akkt_value Missing = of_bits binary64 0
-akkt_value (Set t) = t
+abbrev pub akkt_value : Std.Option Float → Float
+akkt_value Std.None = of_bits binary64 0
+akkt_value (Std.Some t) = t
 
 -- the questions; DIRECTION has two numbers, the second where it says to forget
 abbrev pub questions : List Question

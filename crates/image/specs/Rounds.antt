@@ -4,8 +4,8 @@ use Rattle.std.proofs.Math.Option.{Option, none, some}
 use Rattle.std.proofs.Common.{arith}
 use Rattle.model.specs.Process.{Kind}
 use Rattle.panoc_core.specs.Board.{waiting}
-use Rattle.panoc_core.specs.declared.panoc_cache.AkktTolerance.{AkktTolerance}
-use Rattle.panoc_core.specs.declared.panoc_cache.AkktTolerance.TheVariants.{Missing, Set}
+use Rattle.std.specs.Prelude as Std
+use Rattle.std.specs.Prelude.{Float}
 use Rattle.panoc_core.specs.declared.panoc_cache.ExitStatus.{ExitStatus}
 use Rattle.panoc_core.specs.declared.panoc_cache.ExitStatus.TheVariants.{Converged, NotConvergedIterations, NotConvergedOutOfTime}
 use Rattle.panoc_core.specs.declared.panoc_cache.Phase.{Phase}
@@ -47,9 +47,9 @@ pub flag_round : (b : Bool) → flag_of (flag_number b) ≡ b
 flag_round true = refl
 flag_round false = refl
 
-pub akkt_round : (a : AkktTolerance) → akkt_of (akkt_set a) (akkt_value a) ≡ a
-akkt_round Missing = refl
-akkt_round (Set t) = refl
+pub akkt_round : (a : Std.Option Float) → akkt_of (akkt_set a) (akkt_value a) ≡ a
+akkt_round Std.None = refl
+akkt_round (Std.Some t) = refl
 
 pub question_round : (q : Question) → question_of (question_number q) ≡ q
 question_round Q.Cost = refl

@@ -3,7 +3,7 @@
 ghost use Rattle.std.specs.Prelude.{◌≡◌};
 ghost use Rattle.image.specs.Image.{phase_of, phase_number, status_of, status_number, flag_of, flag_number, akkt_of, akkt_set, akkt_value, question_of, question_number, reply_of};
 
-use panoc_core::panoc_cache::{AkktTolerance, ExitStatus, Phase, Question, Reply};
+use panoc_core::panoc_cache::{ExitStatus, Phase, Question, Reply};
 
 // A number that is no phase's counts as ended.
 pub fn phase_of(p: u32) -> Phase
@@ -68,31 +68,31 @@ pub fn flag_number(b: bool) -> u32
 }
 
 // An AKKT tolerance, where one is set.
-pub fn akkt_of(set: u32, t: f64) -> AkktTolerance
+pub fn akkt_of(set: u32, t: f64) -> Option<f64>
     ensures { result ≡ akkt_of set t }
 {
     if set == 0 {
-        AkktTolerance::Missing
+        None
     } else {
-        AkktTolerance::Set(t)
+        Some(t)
     }
 }
 
-pub fn akkt_set(a: AkktTolerance) -> u32
+pub fn akkt_set(a: Option<f64>) -> u32
     ensures { result ≡ akkt_set a }
 {
     match a {
-        AkktTolerance::Missing => 0,
-        AkktTolerance::Set(_) => 1,
+        None => 0,
+        Some(_) => 1,
     }
 }
 
-pub fn akkt_value(a: AkktTolerance) -> f64
+pub fn akkt_value(a: Option<f64>) -> f64
     ensures { result ≡ akkt_value a }
 {
     match a {
-        AkktTolerance::Missing => 0.0,
-        AkktTolerance::Set(t) => t,
+        None => 0.0,
+        Some(t) => t,
     }
 }
 

@@ -28,8 +28,7 @@ use Rattle.panoc_core.specs.declared.panoc_cache.ExitStatus.{ExitStatus}
 use Rattle.panoc_core.specs.declared.panoc_cache.ExitStatus.TheVariants as E
 use Rattle.panoc_core.specs.declared.panoc_cache.Outcome.TheVariants as O
 use Rattle.panoc_core.specs.declared.panoc_cache.Reply.TheVariants.{Number, Vector}
-use Rattle.panoc_core.specs.declared.panoc_cache.AkktTolerance.{AkktTolerance}
-use Rattle.panoc_core.specs.declared.panoc_cache.AkktTolerance.TheVariants as A
+use Rattle.std.specs.Prelude as Std
 use Rattle.panoc_core.specs.declared.panoc_cache.Settings.{Settings}
 use Rattle.panoc_core.specs.declared.panoc_cache.Solve.{Solve}
 use Rattle.panoc_core.specs.declared.panoc_cache.Stepped.{Stepped}
@@ -604,14 +603,14 @@ envelope_is c g q d = λ i cv gv qv dv. rw (cv, gv, qv, dv, half_bits)
 
 module _ (s : Solve) (b : Board) where
   -- the two tests
-  pub exit_missing : lt s.numbers.norm_gamma_fpr s.set.tolerance ≡ true → s.set.akkt_tolerance ≡ A.Missing → true ≡ I.passes binary64 (set_of s) (state_at s b)
+  pub exit_missing : lt s.numbers.norm_gamma_fpr s.set.tolerance ≡ true → s.set.akkt_tolerance ≡ Std.None → true ≡ I.passes binary64 (set_of s) (state_at s b)
   unfolding I.passes I.akkt_passes
   exit_missing q a =
       sym
       (ap (λ (t : Bool). t && I.akkt_passes binary64 (set_of s) (akkt_of s.set.akkt_tolerance) (state_at s b)) q
-      ∙ ap (λ (k : AkktTolerance). I.akkt_passes binary64 (set_of s) (akkt_of k) (state_at s b)) a)
+      ∙ ap (λ (k : Std.Option Float). I.akkt_passes binary64 (set_of s) (akkt_of k) (state_at s b)) a)
 
-  pub exit_akkt : (t x : Float) → lt s.numbers.norm_gamma_fpr s.set.tolerance ≡ true → s.set.akkt_tolerance ≡ A.Set t
+  pub exit_akkt : (t x : Float) → lt s.numbers.norm_gamma_fpr s.set.tolerance ≡ true → s.set.akkt_tolerance ≡ Std.Some t
       → x ≡ norm binary64 (plus_times binary64 s.numbers.gamma (firsts s.set.n b.fpr) (minus binary64 (firsts s.set.n b.gradient) (firsts s.set.n b.previous)))
       → lt x t ≡ I.passes binary64 (set_of s) (state_at s b)
   unfolding I.passes I.akkt_passes I.akkt_residual
@@ -619,7 +618,7 @@ module _ (s : Solve) (b : Board) where
       ap (λ (y : Float). lt y t) xv
       ∙ sym
       (ap (λ (c : Bool). c && I.akkt_passes binary64 (set_of s) (akkt_of s.set.akkt_tolerance) (state_at s b)) q
-      ∙ ap (λ (k : AkktTolerance). I.akkt_passes binary64 (set_of s) (akkt_of k) (state_at s b)) a)
+      ∙ ap (λ (k : Std.Option Float). I.akkt_passes binary64 (set_of s) (akkt_of k) (state_at s b)) a)
 
   pub exit_not : lt s.numbers.norm_gamma_fpr s.set.tolerance ≡ false → false ≡ I.passes binary64 (set_of s) (state_at s b)
   unfolding I.passes

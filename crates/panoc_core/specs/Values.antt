@@ -1,12 +1,11 @@
 -- What the enums and records of the code stand for in document 01's terms, and the other way round. Definitions only.
 use Rattle.std.specs.Prelude.{Bool, true, false, List, [], Float}
+use Rattle.std.specs.Prelude as Std
 use Rattle.std.proofs.Math.Option.{Option, none, some}
 use Rattle.model.specs.Process.{Kind, End, handed, refused, failed, ask, score, begin, stop, Handed}
 use Rattle.model.specs.Process as M
 use Rattle.model.specs.Refusals as R
 use Rattle.model.specs.State as S
-use Rattle.panoc_core.specs.declared.panoc_cache.AkktTolerance.{AkktTolerance}
-use Rattle.panoc_core.specs.declared.panoc_cache.AkktTolerance.TheVariants.{Missing, Set}
 use Rattle.panoc_core.specs.declared.panoc_cache.Settings.{Settings}
 use Rattle.panoc_core.specs.declared.panoc_cache.ExitStatus.{ExitStatus}
 use Rattle.panoc_core.specs.declared.panoc_cache.ExitStatus.TheVariants.{Converged, NotConvergedIterations, NotConvergedOutOfTime}
@@ -20,9 +19,9 @@ use Rattle.panoc_core.specs.declared.panoc_cache.Outcome.{Outcome}
 use Rattle.panoc_core.specs.declared.panoc_cache.Outcome.TheVariants.{Asked, Ended, Refused, Failed}
 
 -- the AKKT tolerance, where there is one
-abbrev pub akkt_of : AkktTolerance → Option Float
-akkt_of Missing = none
-akkt_of (Set t) = some t
+abbrev pub akkt_of : Std.Option Float → Option Float
+akkt_of Std.None = none
+akkt_of (Std.Some t) = some t
 
 -- the settings of a start
 abbrev pub settings_of : Settings → S.Settings

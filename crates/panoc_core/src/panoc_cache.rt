@@ -6,21 +6,14 @@ ghost use Rattle.model.specs.State.{keep};
 ghost use Rattle.model.specs.Inner.{passes};
 ghost use Rattle.panoc_core.specs.Board.{Board, stepped, at_phase, with_status, best_at, set_of, state_at, set_gradient, set_previous, set_fpr};
 
-// The AKKT tolerance, which may be missing in an inner solve used alone.
-#[derive(Clone, Copy, Debug, PartialEq)]
-pub enum AkktTolerance {
-    Missing,
-    Set(f64),
-}
-
-// What a start is given: n, M, whether TIME is asked, the tolerances.
+// What a start is given: n, M, whether TIME is asked, the tolerances. That of AKKT may be missing in an inner solve used alone.
 #[derive(Clone, Copy, Debug, PartialEq)]
 pub struct Settings {
     pub n: usize,
     pub max_iter: usize,
     pub limited: bool,
     pub tolerance: f64,
-    pub akkt_tolerance: AkktTolerance,
+    pub akkt_tolerance: Option<f64>,
 }
 
 // The three ends.

@@ -12,7 +12,6 @@ use lib.ListN.{length}
 use Rattle.matrix_operations.specs.Firsts.{firsts}
 use Rattle.model.specs.Process as M
 use Rattle.model.specs.Refusals.{wanted}
-use Rattle.panoc_core.specs.declared.panoc_cache.AkktTolerance.TheVariants as A
 use Rattle.panoc_core.specs.declared.panoc_cache.Solve.{Solve}
 use Rattle.panoc_core.specs.Values.{first_point, second_point}
 use Rattle.panoc_core.specs.Rest.{rest}

@@ -15,8 +15,6 @@ use Rattle.model.specs.Refusals.{remains, inner_refusal, unless, sizes_right, li
 use Rattle.panoc_core.specs.declared.panoc_cache.Phase.TheVariants as P
 use Rattle.panoc_core.specs.declared.panoc_cache.Question.TheVariants as Q
 use Rattle.panoc_core.specs.declared.panoc_cache.Outcome.TheVariants as O
-use Rattle.panoc_core.specs.declared.panoc_cache.AkktTolerance.{AkktTolerance}
-use Rattle.panoc_core.specs.declared.panoc_cache.AkktTolerance.TheVariants as A
 use Rattle.panoc_core.specs.declared.panoc_cache.Settings.{Settings}
 use Rattle.panoc_core.specs.declared.panoc_cache.Solve.{Solve}
 use Rattle.panoc_core.specs.declared.panoc_cache.Stepped.{Stepped}

@@ -8,7 +8,7 @@ ghost use Rattle.panoc_core.specs.Board.{Board, set_u, Begins, begun};
 ghost use Rattle.panoc_core.specs.Calls.{Starts};
 
 use panoc_core::panoc_cache::{
-    AkktTolerance, Answered, ExitStatus, InnerIterations, Numbers, Outcome, Phase, Question, Run,
+    Answered, ExitStatus, InnerIterations, Numbers, Outcome, Phase, Question, Run,
     Settings, Solve, Stepped, stops,
 };
 use start_numbers::{limit_right, tolerance_right};
@@ -34,12 +34,12 @@ pub fn start_refusal(set: Settings, us: usize) -> u32
 
 // The AKKT tolerance may be missing.
 #[tactic(auto, unfolding(model::specs::Refusals::akkt_right))]
-pub fn akkt_right(akkt: AkktTolerance) -> bool
+pub fn akkt_right(akkt: Option<f64>) -> bool
     ensures { result ≡ R.akkt_right (akkt_of akkt) }
 {
     match akkt {
-        AkktTolerance::Missing => true,
-        AkktTolerance::Set(t) => tolerance_right(t),
+        None => true,
+        Some(t) => tolerance_right(t),
     }
 }
 

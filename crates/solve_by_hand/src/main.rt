@@ -3,7 +3,7 @@
 
 use panoc::panoc_optimizer::answer;
 use panoc_core::panoc_cache::{
-    AkktTolerance, Outcome, Question, Reply, Run, Settings, SolverStatus,
+    Outcome, Question, Reply, Run, Settings, SolverStatus,
 };
 use panoc_points::points;
 use panoc_starts::start;
@@ -85,7 +85,7 @@ fn main(rt: HostRuntime) -> io::Result<()> {
         max_iter: 5,
         limited: true,
         tolerance: 1e-4,
-        akkt_tolerance: AkktTolerance::Set(1e-2),
+        akkt_tolerance: Some(1e-2),
     };
     let mut plan = [1.5, 0.0, 0.0];
     let mut last = start(set, &plan);

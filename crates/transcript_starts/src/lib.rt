@@ -4,7 +4,7 @@
 pub mod settings;
 
 use line_starts::command::{InnerStart, LoopStart, PsiStart};
-use panoc_core::panoc_cache::{AkktTolerance, Settings};
+use panoc_core::panoc_cache::Settings;
 use settings::{inner_settings, loop_settings, sizes};
 use transcript_lines::output::Line;
 use transcript_psi::{d_psi_told, psi_told};
@@ -17,7 +17,7 @@ pub fn opened() -> Play {
         max_iter: 0,
         limited: false,
         tolerance: 0.0,
-        akkt_tolerance: AkktTolerance::Missing,
+        akkt_tolerance: None,
     };
     let r = panoc_starts::start(set, &[0.0]);
     Play {

@@ -2,7 +2,7 @@
 use alm_core::alm_cache::AlmSettings;
 use factory::alm_factory::Sizes;
 use line_starts::command::{InnerStart, LoopStart, PsiStart};
-use panoc_core::panoc_cache::{AkktTolerance, Settings};
+use panoc_core::panoc_cache::Settings;
 
 // The settings of an inner solve.
 pub fn inner_settings(s: InnerStart) -> Settings {
@@ -11,10 +11,7 @@ pub fn inner_settings(s: InnerStart) -> Settings {
         max_iter: s.m as usize,
         limited: s.limited,
         tolerance: s.tolerance,
-        akkt_tolerance: match s.akkt {
-            Some(x) => AkktTolerance::Set(x),
-            None => AkktTolerance::Missing,
-        },
+        akkt_tolerance: s.akkt,
     }
 }
 

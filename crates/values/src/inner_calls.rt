@@ -1,7 +1,7 @@
 // The inner solve by value.
 use crate::last_number;
 use panoc::panoc_optimizer::answer;
-use panoc_core::panoc_cache::{AkktTolerance, Outcome, Question, Reply, Settings};
+use panoc_core::panoc_cache::{Outcome, Question, Reply, Settings};
 use panoc_points::points;
 use panoc_starts::start;
 
@@ -12,7 +12,7 @@ fn settings(n: usize) -> Settings {
         max_iter: 10000,
         limited: false,
         tolerance: 1.0e-300,
-        akkt_tolerance: AkktTolerance::Missing,
+        akkt_tolerance: None,
     }
 }
 
