@@ -40,6 +40,7 @@ use Rattle.panoc_core.specs.declared.panoc_cache.Stepped.{Stepped}
 use Rattle.panoc_core.specs.declared.panoc_cache.Run.{Run}
 use Rattle.panoc_core.specs.declared.panoc_cache.Outcome.{Outcome}
 use Rattle.panoc_core.specs.declared.refusals.Wanted.{Wanted}
+use Rattle.std.specs.Prelude as Std
 use Rattle.alm_core.specs.Values.{settings_of, said}
 use Rattle.alm_core.specs.Rest.{LoopBoard, rest, resume, sized, counts, sound, is_last, next_of, state_of, carried_of, y_of}
 use Rattle.alm_core.specs.Board.{Ready, Sound, Comes, Takes, Carries, EndsWithin, given, given_xi, set_of, stepped, four, set_u, set_y, set_y_plus}
@@ -179,7 +180,7 @@ wanted_is s b = by (sound s)
     by true = wanted_resume s b s.phase
     by false = refl
 
-pub wants_at : (s : Alm) (p : AlmPhase) (t : Bool) (w : Wanted) → t ≡ sound s → t ≡ true → s.phase ≡ p → kind_of w ≡ wanted_at s p → kind_of w ≡ wanted_of s
+pub wants_at : (s : Alm) (p : AlmPhase) (t : Bool) (w : Std.Option Wanted) → t ≡ sound s → t ≡ true → s.phase ≡ p → kind_of w ≡ wanted_at s p → kind_of w ≡ wanted_of s
 unfolding wanted_of
 wants_at s p t w ts q e k = k ∙ sym (ap (λ (c : Bool). cond c (wanted_at s s.phase) none) (sym ts ∙ q) ∙ ap (wanted_at s) e)
 
@@ -482,7 +483,7 @@ module _ (s : Alm) (b : LoopBoard) (a : Reply) (v us xs : List Float) (m : ℕ) 
   answer_refused z =
       record { refused = λ j q. (ap O.Refused (sym refusal_is ∙ q), refl, refl, refl); accepted = λ q. absurd (z (sym refusal_is ∙ q)) }
 
-pub refusal_wanted : (s : Alm) (w : Wanted) {m : ℕ} (a : Reply) (vs : ℕ) (t : Bool) → kind_of w ≡ wanted_of s → m ≡ answer_refusal (kind_of w) (reply_of a) vs t → m ≡ answer_refusal (wanted_of s) (reply_of a) vs t
+pub refusal_wanted : (s : Alm) (w : Std.Option Wanted) {m : ℕ} (a : Reply) (vs : ℕ) (t : Bool) → kind_of w ≡ wanted_of s → m ≡ answer_refusal (kind_of w) (reply_of a) vs t → m ≡ answer_refusal (wanted_of s) (reply_of a) vs t
 refusal_wanted s w {m} a vs t e q = q ∙ ap (λ (z : Option Kind). answer_refusal z (reply_of a) vs t) e
 
 pub not_inner : (s : Alm) (p : AlmPhase) → s.phase ≡ p → phase_code p ≡ 0 → s.phase ≡ P.Inner → ⊥

@@ -87,19 +87,19 @@ pub fn is_sound(
 }
 
 // What a run that waits with a question of the loop itself waits for.
-pub fn wants_own(phase: AlmPhase, n1: usize, n2: usize) -> Wanted
+pub fn wants_own(phase: AlmPhase, n1: usize, n2: usize) -> Option<Wanted>
     requires { phase ≡ P.Inner → ⊥ }
     ensures { (s : Alm) → s.set.n1 ≡ n1 → s.set.n2 ≡ n2 → kind_of result ≡ wanted_at s phase }
 {
     match phase {
-        AlmPhase::Time => Wanted::Decision,
-        AlmPhase::ProjectY => Wanted::Vector(n1),
-        AlmPhase::Inner => Wanted::Nothing,
-        AlmPhase::F1 => Wanted::Vector(n1),
-        AlmPhase::ProjectC => Wanted::Vector(n1),
-        AlmPhase::F2 => Wanted::Vector(n2),
-        AlmPhase::LastCost => Wanted::Number,
-        AlmPhase::Over => Wanted::Nothing,
+        AlmPhase::Time => Some(Wanted::Decision),
+        AlmPhase::ProjectY => Some(Wanted::Vector(n1)),
+        AlmPhase::Inner => None,
+        AlmPhase::F1 => Some(Wanted::Vector(n1)),
+        AlmPhase::ProjectC => Some(Wanted::Vector(n1)),
+        AlmPhase::F2 => Some(Wanted::Vector(n2)),
+        AlmPhase::LastCost => Some(Wanted::Number),
+        AlmPhase::Over => None,
     }
 }
 
@@ -111,7 +111,7 @@ pub fn wants(
     lw: &[u32; 4],
     lk: &[usize; 10],
     lf: &[f64; 17],
-) -> Wanted
+) -> Option<Wanted>
     ensures { kind_of result ≡ wanted_of (alm_of w.now k.now f.now lw.now lk.now lf.now) }
 {
     if is_sound(w, k, f, lw, lk, lf) {
@@ -121,6 +121,6 @@ pub fn wants(
             wants_own(alm_phase_of(lw[0]), lk[5], lk[6])
         }
     } else {
-        Wanted::Nothing
+        None
     }
 }

@@ -73,7 +73,7 @@ pub fn is_sound(s: Alm) -> bool
 }
 
 // What the run waits for.
-pub fn wants(s: Alm) -> Wanted
+pub fn wants(s: Alm) -> Option<Wanted>
     ensures { kind_of result ≡ wanted_of s }
 {
     let n1 = s.set.n1;
@@ -82,17 +82,17 @@ pub fn wants(s: Alm) -> Wanted
     let solve = s.solve;
     if is_sound(s) {
         match phase {
-            AlmPhase::Time => Wanted::Decision,
-            AlmPhase::ProjectY => Wanted::Vector(n1),
+            AlmPhase::Time => Some(Wanted::Decision),
+            AlmPhase::ProjectY => Some(Wanted::Vector(n1)),
             AlmPhase::Inner => panoc_wanted::wants(solve),
-            AlmPhase::F1 => Wanted::Vector(n1),
-            AlmPhase::ProjectC => Wanted::Vector(n1),
-            AlmPhase::F2 => Wanted::Vector(n2),
-            AlmPhase::LastCost => Wanted::Number,
-            AlmPhase::Over => Wanted::Nothing,
+            AlmPhase::F1 => Some(Wanted::Vector(n1)),
+            AlmPhase::ProjectC => Some(Wanted::Vector(n1)),
+            AlmPhase::F2 => Some(Wanted::Vector(n2)),
+            AlmPhase::LastCost => Some(Wanted::Number),
+            AlmPhase::Over => None,
         }
     } else {
-        Wanted::Nothing
+        None
     }
 }
 

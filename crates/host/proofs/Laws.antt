@@ -14,6 +14,7 @@ use Rattle.panoc_core.specs.declared.panoc_cache.Reply.{Reply}
 use Rattle.panoc_core.specs.declared.panoc_cache.Run.{Run}
 use Rattle.panoc_core.specs.declared.panoc_cache.Solve.{Solve}
 use Rattle.panoc_core.specs.declared.refusals.Wanted.{Wanted}
+use Rattle.std.specs.Prelude as Std
 use Rattle.panoc_core.specs.Rest.{rest}
 use Rattle.panoc_core.specs.Values.{kind_of}
 use Rattle.panoc_core.specs.Board.{Board, run_of, gave, waiting, wanted_of}
@@ -27,7 +28,7 @@ pub exported_as : (kind : ℕ) (x : Float) (code : ℕ) (v us ws : List Float) (
     → Exported kind x code v us ws run r
 exported_as kind x code v us ws run r a h e g = record { malformed = λ q. absurd (omega arith); answered = λ q. subst (λ (y : Reply). Answers run y v us ws r) e g }
 
-module _ (kind : ℕ) (x : Float) (code : ℕ) (v us : List Float) (w k : List ℕ) (f : List Float) (b : Board) (wd : Wanted) (e : (g : List Float) → kind_of wd ≡ wanted_of (solve_of w k g)) where
+module _ (kind : ℕ) (x : Float) (code : ℕ) (v us : List Float) (w k : List ℕ) (f : List Float) (b : Board) (wd : Std.Option Wanted) (e : (g : List Float) → kind_of wd ≡ wanted_of (solve_of w k g)) where
   abbrev s : Solve
   s = solve_of w k f
 

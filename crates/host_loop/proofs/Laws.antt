@@ -10,6 +10,7 @@ use Rattle.model.specs.Process.{Kind}
 use Rattle.model.specs.Refusals.{wanted}
 use Rattle.panoc_core.specs.declared.panoc_cache.Reply.{Reply}
 use Rattle.panoc_core.specs.declared.refusals.Wanted.{Wanted}
+use Rattle.std.specs.Prelude as Std
 use Rattle.panoc_core.specs.Values.{kind_of}
 use Rattle.panoc_core.specs.Board.{waiting}
 use Rattle.alm_core.specs.declared.alm_cache.Alm.{Alm}
@@ -28,7 +29,7 @@ pub exported_as : (kind : ℕ) (x : Float) (code : ℕ) (v us ws xs zs : List Fl
     → Exported kind x code v us ws xs zs run r
 exported_as kind x code v us ws xs zs run r a h e g = record { malformed = λ q. absurd (omega arith); answered = λ q. subst (λ (y : Reply). Answers run y v us ws xs zs r) e g }
 
-module _ (kind : ℕ) (x : Float) (code : ℕ) (v us xs : List Float) (w w' k : List ℕ) (f : List Float) (lw lk : List ℕ) (lf : List Float) (b : LoopBoard) (wd : Wanted) (e : kind_of wd ≡ wanted_of (alm_of w k f lw lk lf)) where
+module _ (kind : ℕ) (x : Float) (code : ℕ) (v us xs : List Float) (w w' k : List ℕ) (f : List Float) (lw lk : List ℕ) (lf : List Float) (b : LoopBoard) (wd : Std.Option Wanted) (e : kind_of wd ≡ wanted_of (alm_of w k f lw lk lf)) where
   abbrev s : Alm
   s = alm_of w k f lw lk lf
 

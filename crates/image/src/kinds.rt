@@ -71,29 +71,19 @@ pub fn flag_number(b: bool) -> u32
 pub fn akkt_of(set: u32, t: f64) -> Option<f64>
     ensures { result ≡ akkt_of set t }
 {
-    if set == 0 {
-        None
-    } else {
-        Some(t)
-    }
+    (set != 0).then_some(t)
 }
 
 pub fn akkt_set(a: Option<f64>) -> u32
     ensures { result ≡ akkt_set a }
 {
-    match a {
-        None => 0,
-        Some(_) => 1,
-    }
+    a.is_some() as u32
 }
 
 pub fn akkt_value(a: Option<f64>) -> f64
     ensures { result ≡ akkt_value a }
 {
-    match a {
-        None => 0.0,
-        Some(t) => t,
-    }
+    a.unwrap_or(0.0)
 }
 
 // A question by its number; any other is TIME's.

@@ -8,6 +8,7 @@ use Rattle.model.specs.Refusals.{answer_refusal}
 use Rattle.panoc_core.specs.declared.panoc_cache.Reply.{Reply}
 use Rattle.panoc_core.specs.declared.panoc_cache.Solve.{Solve}
 use Rattle.panoc_core.specs.declared.refusals.Wanted.{Wanted}
+use Rattle.std.specs.Prelude as Std
 use Rattle.panoc_core.specs.Values.{kind_of, reply_of}
 use Rattle.panoc_core.specs.Board.{Board, Takes, run_of, gave, given, wanted_of}
 use Rattle.panoc_core.specs.Calls.{Answers}
@@ -15,7 +16,7 @@ use Rattle.panoc_answers.proofs.AnswerLaws.{answer_goes, answer_refused, answer_
 use Rattle.image.specs.Image.{solve_of, noted, outcome_of, step_of}
 
 -- the answer a, with the vector v beside it, which the table refuses by m, 0 for none
-module _ (a : Reply) (v us : List Float) (w k : List ℕ) (f : List Float) (b : Board) (wd : Wanted) (e : kind_of wd ≡ wanted_of (solve_of w k f)) (t : Bool) (m : ℕ) (te : t ≡ eqb (length us) (get_or k 3 0)) (q : m ≡ answer_refusal (kind_of wd) (reply_of a) (length v) t) where
+module _ (a : Reply) (v us : List Float) (w k : List ℕ) (f : List Float) (b : Board) (wd : Std.Option Wanted) (e : kind_of wd ≡ wanted_of (solve_of w k f)) (t : Bool) (m : ℕ) (te : t ≡ eqb (length us) (get_or k 3 0)) (q : m ≡ answer_refusal (kind_of wd) (reply_of a) (length v) t) where
   abbrev s : Solve
   s = solve_of w k f
 

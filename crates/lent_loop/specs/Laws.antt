@@ -8,6 +8,7 @@ use Rattle.panoc_core.specs.declared.panoc_cache.Settings.{Settings}
 use Rattle.panoc_core.specs.declared.panoc_cache.Solve.{Solve}
 use Rattle.panoc_core.specs.declared.panoc_cache.Stepped.{Stepped}
 use Rattle.panoc_core.specs.declared.refusals.Wanted.{Wanted}
+use Rattle.std.specs.Prelude as Std
 use Rattle.panoc_core.specs.Rest.{rest}
 use Rattle.panoc_core.specs.Values.{kind_of}
 use Rattle.panoc_core.specs.Values as Inner
@@ -48,7 +49,7 @@ pub blank : LoopBoard
 blank = record { inner = InnerBoard.nine [] [] [] [] [] [] [] [] []; y = []; y_plus = []; w = [] }
 
 -- ---- an answer a, with the vector v beside it, which the table refuses by m, 0 for none
-module _ (a : Reply) (v us xs : List Float) (w k : List ℕ) (f : List Float) (lw lk : List ℕ) (lf : List Float) (wd : Wanted) (e : kind_of wd ≡ wanted_of (alm_of w k f lw lk lf)) (t : Bool) (m : ℕ) (te : t ≡ lent_right (settings_of lw lk lf) (length us) (length xs)) (q : m ≡ answer_refusal (kind_of wd) (Inner.reply_of a) (length v) t) where
+module _ (a : Reply) (v us xs : List Float) (w k : List ℕ) (f : List Float) (lw lk : List ℕ) (lf : List Float) (wd : Std.Option Wanted) (e : kind_of wd ≡ wanted_of (alm_of w k f lw lk lf)) (t : Bool) (m : ℕ) (te : t ≡ lent_right (settings_of lw lk lf) (length us) (length xs)) (q : m ≡ answer_refusal (kind_of wd) (Inner.reply_of a) (length v) t) where
   abbrev run : Alm
   run = alm_of w k f lw lk lf
 

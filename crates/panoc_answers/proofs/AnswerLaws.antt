@@ -18,6 +18,7 @@ use Rattle.panoc_core.specs.declared.panoc_cache.Reply.{Reply}
 use Rattle.panoc_core.specs.declared.panoc_cache.Solve.{Solve}
 use Rattle.panoc_core.specs.declared.panoc_cache.Stepped.{Stepped}
 use Rattle.panoc_core.specs.declared.refusals.Wanted.{Wanted}
+use Rattle.std.specs.Prelude as Std
 use Rattle.panoc_core.specs.Values.{reply_of, kind_of}
 use Rattle.panoc_core.specs.Rest.{rest}
 use Rattle.panoc_core.specs.Board.{Board, run_of, gave, given, Takes, Sound, wanted_of}
@@ -59,5 +60,5 @@ answer_length s a v us m t te e z =
     by none q o = absurd (zero_not (reply_of a) (length v) t o)
     by (some k) q o = wanted_sound s k q
 
-pub refusal_wanted : (s : Solve) (w : Wanted) {m : ℕ} (a : Reply) (vs : ℕ) (t : Bool) → kind_of w ≡ wanted_of s → m ≡ answer_refusal (kind_of w) (reply_of a) vs t → m ≡ answer_refusal (wanted_of s) (reply_of a) vs t
+pub refusal_wanted : (s : Solve) (w : Std.Option Wanted) {m : ℕ} (a : Reply) (vs : ℕ) (t : Bool) → kind_of w ≡ wanted_of s → m ≡ answer_refusal (kind_of w) (reply_of a) vs t → m ≡ answer_refusal (wanted_of s) (reply_of a) vs t
 refusal_wanted s w {m} a vs t e q = q ∙ ap (λ (z : Option Kind). answer_refusal z (reply_of a) vs t) e

@@ -14,7 +14,7 @@ use Rattle.panoc_core.specs.declared.panoc_cache.Question.TheVariants.{Cost, Gra
 use Rattle.panoc_core.specs.declared.panoc_cache.Reply.{Reply}
 use Rattle.panoc_core.specs.declared.panoc_cache.Reply.TheVariants.{Number, Vector, Yes, No, Failure}
 use Rattle.panoc_core.specs.declared.refusals.Wanted.{Wanted}
-use Rattle.panoc_core.specs.declared.refusals.Wanted.TheVariants.{Nothing, Decision}
+use Rattle.panoc_core.specs.declared.refusals.Wanted.TheVariants.{Decision}
 use Rattle.panoc_core.specs.declared.panoc_cache.Outcome.{Outcome}
 use Rattle.panoc_core.specs.declared.panoc_cache.Outcome.TheVariants.{Asked, Ended, Refused, Failed}
 
@@ -52,12 +52,12 @@ decided true = Yes
 decided false = No
 
 -- what a run waits for; none once it has ended
-abbrev pub kind_of : Wanted → Option Kind
-kind_of Nothing = none
-kind_of Wanted.Number = some Kind.number
-kind_of (Wanted.Vector n) = some (Kind.vector n)
-kind_of (Wanted.Direction n) = some (Kind.direction n)
-kind_of Decision = some Kind.decision
+abbrev pub kind_of : Std.Option Wanted → Option Kind
+kind_of Std.None = none
+kind_of (Std.Some Wanted.Number) = some Kind.number
+kind_of (Std.Some (Wanted.Vector n)) = some (Kind.vector n)
+kind_of (Std.Some (Wanted.Direction n)) = some (Kind.direction n)
+kind_of (Std.Some Decision) = some Kind.decision
 
 -- a question, less its points
 abbrev pub question_of : M.Question → Question

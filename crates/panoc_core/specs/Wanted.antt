@@ -20,6 +20,7 @@ use Rattle.panoc_core.specs.declared.panoc_cache.Solve.{Solve}
 use Rattle.panoc_core.specs.declared.panoc_cache.Stepped.{Stepped}
 use Rattle.panoc_core.specs.declared.panoc_cache.Run.{Run}
 use Rattle.panoc_core.specs.declared.refusals.Wanted.{Wanted}
+use Rattle.std.specs.Prelude as Std
 use Rattle.panoc_core.specs.Values.{reply_of, kind_of, decided, said, settings_of}
 use Rattle.panoc_core.specs.Rest.{rest, resume, sound}
 use Rattle.panoc_core.specs.Board.{Board, run_of, given, Comes, Takes, Sound, set_of, next_at, iterate_at, stepped, wanted_at, wanted_of, wants_vector, begun}
@@ -62,7 +63,7 @@ wanted_is s b = by (sound s)
     by true = wanted_resume (run_of s b) s.phase
     by false = refl
 
-pub wants_at : (s : Solve) (p : Phase) (t : Bool) (w : Wanted) → t ≡ sound s → t ≡ true → s.phase ≡ p → kind_of w ≡ wanted_at s.set.n p → kind_of w ≡ wanted_of s
+pub wants_at : (s : Solve) (p : Phase) (t : Bool) (w : Std.Option Wanted) → t ≡ sound s → t ≡ true → s.phase ≡ p → kind_of w ≡ wanted_at s.set.n p → kind_of w ≡ wanted_of s
 unfolding wanted_of
 wants_at s p t w ts tt' e q =
     q ∙ sym (ap (λ (c : Bool). cond c (wanted_at s.set.n s.phase) none) (sym ts ∙ tt') ∙ ap (λ (z : Phase). wanted_at s.set.n z) e)

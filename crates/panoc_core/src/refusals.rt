@@ -5,11 +5,10 @@ ghost use Rattle.panoc_core.specs.Values.{reply_of, kind_of};
 
 use crate::panoc_cache::Reply;
 
-// What a run waits for: nothing once it has ended; a number; a vector of so many places; a direction, for which no failure is taken; a
+// What a run waits for, None once it has ended: a number; a vector of so many places; a direction, for which no failure is taken; a
 // yes or no.
 #[derive(Clone, Copy, Debug, PartialEq, Eq)]
 pub enum Wanted {
-    Nothing,
     Number,
     Vector(usize),
     Direction(usize),
@@ -33,11 +32,13 @@ fn by_places(vs: usize, n: usize, fits: bool) -> u32
 // The number by which an answer is refused, 0 for none. vs is the length of the answered slice; fits says that each lent place has
 // the length asked.
 #[tactic(auto, unfolding(model::specs::Refusals::answer_refusal, model::specs::Refusals::fits_kind, model::specs::Refusals::fits_length, model::specs::Refusals::fits_places, model::specs::Refusals::given, model::specs::Refusals::as_number, model::specs::Refusals::as_vector, model::specs::Refusals::as_decision, model::specs::Refusals::may_fail,))]
-pub fn refusal(wanted: Wanted, a: Reply, vs: usize, fits: bool) -> u32
+pub fn refusal(wanted: Option<Wanted>, a: Reply, vs: usize, fits: bool) -> u32
     ensures { result ≡ answer_refusal (kind_of wanted) (reply_of a) vs fits }
 {
+    let Some(wanted) = wanted else {
+        return 6;
+    };
     match (wanted, a) {
-        (Wanted::Nothing, _) => 6,
         (Wanted::Vector(n) | Wanted::Direction(n), Reply::Vector) => by_places(vs, n, fits),
         (Wanted::Number, Reply::Number(_) | Reply::Failure(_))
         | (Wanted::Vector(_), Reply::Failure(_))

@@ -21,7 +21,7 @@ pub fn in_range(n: usize, max_iter: usize, left: usize, done: usize) -> bool
 }
 
 // What a run in range waits for at a phase.
-pub fn wants_at(n: usize, phase: Phase) -> Wanted
+pub fn wants_at(n: usize, phase: Phase) -> Option<Wanted>
     ensures { kind_of result ≡ wanted_at n phase }
 {
     match phase {
@@ -30,7 +30,7 @@ pub fn wants_at(n: usize, phase: Phase) -> Wanted
         | Phase::DoubledCost
         | Phase::FirstCost
         | Phase::TriedCost
-        | Phase::LastCost => Wanted::Number,
+        | Phase::LastCost => Some(Wanted::Number),
         Phase::Gradient
         | Phase::Shifted
         | Phase::Project
@@ -38,38 +38,38 @@ pub fn wants_at(n: usize, phase: Phase) -> Wanted
         | Phase::FirstGradient
         | Phase::FirstProject
         | Phase::TriedGradient
-        | Phase::TriedProject => Wanted::Vector(n),
-        Phase::Direction => Wanted::Direction(n),
-        Phase::Time => Wanted::Decision,
-        Phase::Over => Wanted::Nothing,
+        | Phase::TriedProject => Some(Wanted::Vector(n)),
+        Phase::Direction => Some(Wanted::Direction(n)),
+        Phase::Time => Some(Wanted::Decision),
+        Phase::Over => None,
     }
 }
 
 // What a lent run waits for.
-pub fn wants_lent(w: &[u32; 6], k: &[usize; 6]) -> Wanted
+pub fn wants_lent(w: &[u32; 6], k: &[usize; 6]) -> Option<Wanted>
     ensures { (f : List Float) → kind_of result ≡ wanted_of (solve_of w.now k.now f) }
 {
     if in_range(k[N], k[MAX_ITER], k[LEFT], k[DONE]) {
         wants_at(k[N], phase_of(w[PHASE]))
     } else {
-        Wanted::Nothing
+        None
     }
 }
 
 // What the run waits for.
-pub fn wants(s: Solve) -> Wanted
+pub fn wants(s: Solve) -> Option<Wanted>
     ensures { kind_of result ≡ wanted_of s }
 {
     if in_range(s.set.n, s.set.max_iter, s.left, s.iterations.0) {
         wants_at(s.set.n, s.phase)
     } else {
-        Wanted::Nothing
+        None
     }
 }
 
 // Whether anything is wanted.
-pub fn waits(wanted: Wanted) -> bool
+pub fn waits(wanted: Option<Wanted>) -> bool
     ensures { result ≡ waiting (kind_of wanted) }
 {
-    !matches!(wanted, Wanted::Nothing)
+    wanted.is_some()
 }

@@ -61,7 +61,7 @@ pub trait Penalty: Copy {
     fn board(u: [f64; 64], y: [f64; 64]) -> Self::Board
         ensures { result ≡ with_uy u y result };
 
-    fn wanted(self, sizes: Sizes) -> Wanted
+    fn wanted(self, sizes: Sizes) -> Option<Wanted>
         ensures { kind_of result ≡ kind_at sizes self };
 
     ghost begins: { (s : Sizes) (c : Float) (x : Self.Value) (u y : List Float) (b : Self.Board) → resume (run_of (record { phase = first_phase; sizes = s; c = c; value = x }) (with_uy u y b)) first_phase ≡ begun s (firsts s.n u) c (firsts s.n1 y) };
@@ -139,12 +139,12 @@ impl Penalty for PsiPhase {
         }
     }
 
-    fn wanted(self, sizes: Sizes) -> Wanted {
+    fn wanted(self, sizes: Sizes) -> Option<Wanted> {
         match self {
-            PsiPhase::Cost => Wanted::Number,
-            PsiPhase::F1 | PsiPhase::ProjectC => Wanted::Vector(sizes.n1),
-            PsiPhase::F2 => Wanted::Vector(sizes.n2),
-            PsiPhase::Over => Wanted::Nothing,
+            PsiPhase::Cost => Some(Wanted::Number),
+            PsiPhase::F1 | PsiPhase::ProjectC => Some(Wanted::Vector(sizes.n1)),
+            PsiPhase::F2 => Some(Wanted::Vector(sizes.n2)),
+            PsiPhase::Over => None,
         }
     }
 }
@@ -217,12 +217,12 @@ impl Penalty for DPsiPhase {
         }
     }
 
-    fn wanted(self, sizes: Sizes) -> Wanted {
+    fn wanted(self, sizes: Sizes) -> Option<Wanted> {
         match self {
-            DPsiPhase::Gradient | DPsiPhase::Jf1t | DPsiPhase::Jf2t => Wanted::Vector(sizes.n),
-            DPsiPhase::F1 | DPsiPhase::ProjectC => Wanted::Vector(sizes.n1),
-            DPsiPhase::F2 => Wanted::Vector(sizes.n2),
-            DPsiPhase::Over => Wanted::Nothing,
+            DPsiPhase::Gradient | DPsiPhase::Jf1t | DPsiPhase::Jf2t => Some(Wanted::Vector(sizes.n)),
+            DPsiPhase::F1 | DPsiPhase::ProjectC => Some(Wanted::Vector(sizes.n1)),
+            DPsiPhase::F2 => Some(Wanted::Vector(sizes.n2)),
+            DPsiPhase::Over => None,
         }
     }
 }

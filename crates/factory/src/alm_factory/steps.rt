@@ -37,12 +37,12 @@ pub fn refuses<P: Copy, V: Copy>(
 }
 
 // What the run waits for: nothing where it has ended, or where no start made it.
-pub fn wants<P: Penalty>(s: State<P, P::Value>) -> Wanted
+pub fn wants<P: Penalty>(s: State<P, P::Value>) -> Option<Wanted>
     ensures { kind_of result ≡ kind P.kind_at s }
 {
     if sound(s.sizes) {
         s.phase.wanted(s.sizes)
     } else {
-        Wanted::Nothing
+        None
     }
 }
