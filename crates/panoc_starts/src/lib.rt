@@ -8,8 +8,8 @@ ghost use Rattle.panoc_core.specs.Board.{Board, set_u, Begins, begun};
 ghost use Rattle.panoc_core.specs.Calls.{Starts};
 
 use panoc_core::panoc_cache::{
-    Answered, ExitStatus, InnerIterations, Numbers, Outcome, Phase, Question, Run,
-    Settings, Solve, Stepped, stops,
+    Answered, ExitStatus, InnerIterations, Numbers, Outcome, Phase, Question, Run, Settings, Solve,
+    Stepped, stops,
 };
 use start_numbers::{limit_right, tolerance_right};
 use start_sizes::sizes_right;

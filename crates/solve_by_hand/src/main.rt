@@ -2,9 +2,7 @@
 #![tactic(auto)]
 
 use panoc::panoc_optimizer::answer;
-use panoc_core::panoc_cache::{
-    Outcome, Question, Reply, Run, Settings, SolverStatus,
-};
+use panoc_core::panoc_cache::{Outcome, Question, Reply, Run, Settings, SolverStatus};
 use panoc_points::points;
 use panoc_starts::start;
 use shown::{Bits, End, Floats};

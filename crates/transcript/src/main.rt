@@ -15,9 +15,14 @@ use transcript_state::Play;
 
 // What a line says is done; gives what is printed of it.
 fn turn(play: &mut Play, line: &[u8]) -> Line {
-    let Some(Said { command, first: u, second: xi }) = heard(line) else {
+    let Some(said) = heard(line) else {
         return alone(b"bad");
     };
+    let Said {
+        command,
+        first: u,
+        second: xi,
+    } = said;
     let (next, told) = match command {
         Command::Inner(set) => inner(set, u),
         Command::Loop(set) => outer(set, u, xi),

@@ -24,5 +24,9 @@ pub fn next(input: &mut impl BufRead, line: &mut Vec<u8>) -> io::Result<bool> {
 
 // What a line says; of another form is one that is too long, too.
 pub fn heard(line: &[u8]) -> Option<Said<128, 128>> {
-    if line.len() > LONGEST { None } else { said::<128, 128>(line) }
+    if line.len() > LONGEST {
+        None
+    } else {
+        said::<128, 128>(line)
+    }
 }

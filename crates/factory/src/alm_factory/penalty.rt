@@ -218,10 +218,11 @@ impl Penalty for DPsiPhase {
     }
 
     fn wanted(self, sizes: Sizes) -> Option<Wanted> {
+        let Sizes { n, n1, n2 } = sizes;
         match self {
-            DPsiPhase::Gradient | DPsiPhase::Jf1t | DPsiPhase::Jf2t => Some(Wanted::Vector(sizes.n)),
-            DPsiPhase::F1 | DPsiPhase::ProjectC => Some(Wanted::Vector(sizes.n1)),
-            DPsiPhase::F2 => Some(Wanted::Vector(sizes.n2)),
+            DPsiPhase::Gradient | DPsiPhase::Jf1t | DPsiPhase::Jf2t => Some(Wanted::Vector(n)),
+            DPsiPhase::F1 | DPsiPhase::ProjectC => Some(Wanted::Vector(n1)),
+            DPsiPhase::F2 => Some(Wanted::Vector(n2)),
             DPsiPhase::Over => None,
         }
     }
