@@ -2,19 +2,18 @@
 #![tactic(auto)]
 
 use float_printing::to_bits;
-use float_words::of_bits;
+use float_words::{of_bits, read_pattern};
 use std::io;
-use std::io::{BufRead, BufReader, BufWriter, Write};
+use std::io::{BufRead, BufReader};
 
 // A line that is no pattern ends the input.
 fn main(rt: HostRuntime) -> io::Result<()> {
-    let mut out = BufWriter::new(rt.alloc(), io::writer(&rt))?;
     for line in BufReader::new(rt.alloc(), rt.reader())?.lines(rt.alloc()) {
-        let Ok(bits) = u64::from_str_radix(line?.as_str(), 16) else {
+        let Some(bits) = read_pattern(line?.as_bytes()) else {
             break;
         };
         let root = to_bits(numeric::sqrt(of_bits(bits)));
-        writeln!(out, "{bits:016x} {root:016x}")?;
+        println!(rt; "{bits:016x} {root:016x}")?;
     }
-    out.flush()
+    Ok(())
 }

@@ -36,8 +36,8 @@ fn turn(play: &mut Play, line: &[u8]) -> Line {
     told
 }
 
-// A loop has to end and nothing says that the input does, so it counts its turns, up to a number that no input uses up. What is printed is written before more is
-// waited for.
+// A loop has to end and nothing says that the input does, so it counts its turns, up to a number that no input uses up. What is printed is
+// written before more is waited for.
 fn main(rt: HostRuntime) -> io::Result<()> {
     let mut input = BufReader::new(rt.alloc(), rt.reader())?;
     let mut out = BufWriter::new(rt.alloc(), io::writer(&rt))?;

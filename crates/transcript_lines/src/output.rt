@@ -47,14 +47,18 @@ pub fn asked<P: FnOnce(&mut [f64], &mut [f64]) -> u32>(
 }
 
 // refused NUMBER
-pub fn refused(number: u32) -> Line {
+pub fn refused(number: u32) -> Line
+    ensures { array_vec_len result ≤ 64 }
+{
     let mut line = Line::new();
     put_counted(b"refused ", number as u64, &mut line);
     line
 }
 
 // refused 9 CODE
-pub fn failed(code: u32) -> Line {
+pub fn failed(code: u32) -> Line
+    ensures { array_vec_len result ≤ 64 }
+{
     let mut line = Line::new();
     put_counted(b"refused 9 ", code as u64, &mut line);
     line
