@@ -7,46 +7,33 @@ ghost use Rattle.model.specs.Loop as L;
 ghost use Rattle.alm_core.specs.Rest.{LoopBoard, counts};
 ghost use Rattle.alm_core.specs.Board.{set_of, counted_with, settled_y, settled_f2, found_all};
 
-use alm_core::alm_cache::{Alm, OuterIterations};
+use alm_core::alm_cache::{Alm, AlmNumbers, OuterIterations};
 use panoc_core::panoc_cache::InnerIterations;
 
 // |y_plus - y| ≤ c × δ + 2^-52, from the second iteration on, where n1 > 0.
 pub fn multipliers_settled(s: Alm) -> bool
     ensures { result ≡ settled_y s }
 {
-    if s.set.n1 == 0 {
-        return true;
-    }
-    let outer = s.outer;
-    if outer.0 == 0 {
-        return false;
-    }
-    s.numbers.delta_y_norm_plus <= s.numbers.penalty * s.set.delta_tolerance + 2.220446049250313e-16
+    s.set.n1 == 0
+        || (s.outer.0 != 0
+            && s.numbers.delta_y_norm_plus
+                <= s.numbers.penalty * s.set.delta_tolerance + 2.220446049250313e-16)
 }
 
 // |F2| ≤ δ + 2^-52, where n2 > 0.
 pub fn mapping_settled(s: Alm) -> bool
     ensures { result ≡ settled_f2 s }
 {
-    if s.set.n2 == 0 {
-        return true;
-    }
-    s.numbers.f2_norm_plus <= s.set.delta_tolerance + 2.220446049250313e-16
+    s.set.n2 == 0 || s.numbers.f2_norm_plus <= s.set.delta_tolerance + 2.220446049250313e-16
 }
 
 // The exit test of an outer iteration.
 pub fn is_exit_criterion_satisfied(s: Alm) -> bool
     ensures { (b : LoopBoard) → result ≡ L.exits binary64 (set_of s) (found_all s b) }
 {
-    if multipliers_settled(s) {
-        if mapping_settled(s) {
-            s.numbers.akkt_tolerance <= s.set.epsilon_tolerance + 2.220446049250313e-16
-        } else {
-            false
-        }
-    } else {
-        false
-    }
+    multipliers_settled(s)
+        && mapping_settled(s)
+        && s.numbers.akkt_tolerance <= s.set.epsilon_tolerance + 2.220446049250313e-16
 }
 
 // Whether an infeasibility is ≤ coefficient × the former + 2^-52.
@@ -60,19 +47,13 @@ pub fn decreased(s: Alm, norm: f64, former: f64) -> bool
 pub fn is_penalty_stall_criterion(s: Alm) -> bool
     ensures { (b : LoopBoard) → result ≡ L.stalls binary64 (set_of s) (found_all s b) }
 {
-    if s.set.n1 == 0 {
-        if s.set.n2 == 0 {
-            return false;
-        }
-        return decreased(s, s.numbers.f2_norm_plus, s.numbers.f2_norm);
-    }
-    if decreased(s, s.numbers.delta_y_norm_plus, s.numbers.delta_y_norm) {
-        if s.set.n2 == 0 {
-            return true;
-        }
-        decreased(s, s.numbers.f2_norm_plus, s.numbers.f2_norm)
-    } else {
-        false
+    let y_decreased = decreased(s, s.numbers.delta_y_norm_plus, s.numbers.delta_y_norm);
+    let f2_decreased = decreased(s, s.numbers.f2_norm_plus, s.numbers.f2_norm);
+    match (s.set.n1, s.set.n2) {
+        (0, 0) => false,
+        (0, _) => f2_decreased,
+        (_, 0) => y_decreased,
+        _ => y_decreased && f2_decreased,
     }
 }
 
@@ -80,14 +61,11 @@ pub fn is_penalty_stall_criterion(s: Alm) -> bool
 pub fn update_penalty_parameter(s: Alm) -> f64
     ensures { (b : LoopBoard) → result ≡ L.next_penalty binary64 (set_of s) (found_all s b) }
 {
-    let outer = s.outer;
-    if outer.0 == 0 {
-        return s.numbers.penalty;
+    if s.outer.0 == 0 || is_penalty_stall_criterion(s) {
+        s.numbers.penalty
+    } else {
+        s.numbers.penalty * s.set.penalty_update_factor
     }
-    if is_penalty_stall_criterion(s) {
-        return s.numbers.penalty;
-    }
-    s.numbers.penalty * s.set.penalty_update_factor
 }
 
 // The AKKT tolerance of the next inner solve.
@@ -105,21 +83,16 @@ pub fn counted(s: Alm, penalty: f64, akkt: f64) -> Alm
     requires { counts s ≡ true }
     ensures { result ≡ counted_with penalty akkt s }
 {
-    let outer = s.outer;
-    let inner = s.inner;
-    let found = s.found;
-    let k = outer.0 + 1;
-    let m = inner.0 + found.0;
-    let more = OuterIterations(k);
-    let total = InnerIterations(m);
-    let delta = s.numbers.delta_y_norm_plus;
-    let norm = s.numbers.f2_norm_plus;
-    let mut t = s;
-    t.outer = more;
-    t.inner = total;
-    t.numbers.penalty = penalty;
-    t.numbers.akkt_tolerance = akkt;
-    t.numbers.delta_y_norm = delta;
-    t.numbers.f2_norm = norm;
-    t
+    Alm {
+        outer: OuterIterations(s.outer.0 + 1),
+        inner: InnerIterations(s.inner.0 + s.found.0),
+        numbers: AlmNumbers {
+            penalty,
+            akkt_tolerance: akkt,
+            delta_y_norm: s.numbers.delta_y_norm_plus,
+            f2_norm: s.numbers.f2_norm_plus,
+            ..s.numbers
+        },
+        ..s
+    }
 }
