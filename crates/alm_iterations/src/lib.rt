@@ -16,18 +16,19 @@ pub fn inner_solve(s: Alm) -> AlmStepped
     requires { Ready s }
     ensures { (b : LoopBoard) → Comes s.set (L.inner_solve binary64 (set_of s) (next_of s b) (state_of s b)) result b }
 {
-    let akkt_tolerance = Some(s.numbers.akkt_tolerance);
     let set = Settings {
         n: s.set.n,
         max_iter: s.set.max_inner_iterations,
         limited: s.set.limited,
         tolerance: s.set.tolerance,
-        akkt_tolerance,
+        akkt_tolerance: Some(s.numbers.akkt_tolerance),
     };
     let solve = panoc_starts::begin(set);
-    let mut t = s;
-    t.solve = solve;
-    asks(t, AlmPhase::Inner, AlmQuestion::Inner(Question::Cost))
+    asks(
+        Alm { solve, ..s },
+        AlmPhase::Inner,
+        AlmQuestion::Inner(Question::Cost),
+    )
 }
 
 // An outer iteration: the projection of y on Y, and the inner solve.
@@ -59,15 +60,14 @@ pub fn next_iteration(s: Alm, status: ExitStatus) -> AlmStepped
     requires { Closing s }
     ensures { (b : LoopBoard) → Comes s.set (L.iterations binary64 (set_of s) s.left (status_of status) (state_of s b)) result b }
 {
-    let left = s.left;
-    if left == 0 {
+    if s.left == 0 {
         return conclude(s, ExitStatus::NotConvergedIterations);
     }
-    let mut t = s;
-    t.left = left - 1;
     match status {
-        ExitStatus::Converged => begins(t),
-        ExitStatus::NotConvergedIterations => begins(t),
-        ExitStatus::NotConvergedOutOfTime => { conclude(s, ExitStatus::NotConvergedOutOfTime) }
+        ExitStatus::Converged | ExitStatus::NotConvergedIterations => begins(Alm {
+            left: s.left - 1,
+            ..s
+        }),
+        ExitStatus::NotConvergedOutOfTime => conclude(s, ExitStatus::NotConvergedOutOfTime),
     }
 }

@@ -1,27 +1,25 @@
-use Rattle.std.proofs.Common.{◌-◌, arith}
+use Rattle.std.proofs.Common.{◌-◌, arith, inl, inr}
 use Rattle.alm_core.specs.Laws.{next_ready, next_none, next_on, next_open, next_late}
 use Rattle.alm_iterations.proofs.next_iteration.Goals as goal
 
 pub conclude-requires : goal.conclude-requires
 conclude-requires c = c.requires.0
 
-pub returns-then-left-eq0 : goal.returns-then-left-eq0
-returns-then-left-eq0 c = λ b. next_none c.args.s b _ c.args.status c.if-left-eq0.true (c.conclude.ensures b)
+pub returns-then-s-eq0 : goal.returns-then-s-eq0
+returns-then-s-eq0 c = λ b. next_none c.args.s b _ c.args.status c.if-s-eq0.true (c.conclude.ensures b)
 
 pub begins-requires : goal.begins-requires
-begins-requires c = next_ready c.args.s _ c.requires (omega (arith, c.if-left-eq0.false))
-
-pub begins-requires-in-NotConvergedIterations : goal.begins-requires-in-NotConvergedIterations
-begins-requires-in-NotConvergedIterations c = next_ready c.args.s _ c.requires (omega (arith, c.if-left-eq0.false))
+begins-requires c = next_ready c.args.s _ c.requires (omega (arith, c.if-s-eq0.false))
 
 pub conclude-requires-in-NotConvergedOutOfTime : goal.conclude-requires-in-NotConvergedOutOfTime
 conclude-requires-in-NotConvergedOutOfTime c = c.requires.0
 
 pub returns-in-Converged : goal.returns-in-Converged
-returns-in-Converged c = λ b. next_on c.args.s b _ c.args.status (c.args.s.left - 1) (omega (arith, c.if-left-eq0.false)) c.in-Converged.is (c.begins.ensures b)
-
-pub returns-in-NotConvergedIterations : goal.returns-in-NotConvergedIterations
-returns-in-NotConvergedIterations c = λ b. next_open c.args.s b _ c.args.status (c.args.s.left - 1) (omega (arith, c.if-left-eq0.false)) c.in-NotConvergedIterations.is (c.begins-in-NotConvergedIterations.ensures b)
+returns-in-Converged c = λ b.
+    elim c.in-Converged.is [
+      | inl e ↦ next_on c.args.s b _ c.args.status (c.args.s.left - 1) (omega (arith, c.if-s-eq0.false)) e (c.begins.ensures b)
+      | inr e ↦ next_open c.args.s b _ c.args.status (c.args.s.left - 1) (omega (arith, c.if-s-eq0.false)) e (c.begins.ensures b)
+    ]
 
 pub returns-in-NotConvergedOutOfTime : goal.returns-in-NotConvergedOutOfTime
-returns-in-NotConvergedOutOfTime c = λ b. next_late c.args.s b _ c.args.status (c.args.s.left - 1) (omega (arith, c.if-left-eq0.false)) c.in-NotConvergedOutOfTime.is (c.conclude-in-NotConvergedOutOfTime.ensures b)
+returns-in-NotConvergedOutOfTime c = λ b. next_late c.args.s b _ c.args.status (c.args.s.left - 1) (omega (arith, c.if-s-eq0.false)) c.in-NotConvergedOutOfTime.is (c.conclude-in-NotConvergedOutOfTime.ensures b)
