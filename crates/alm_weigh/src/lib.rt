@@ -24,19 +24,16 @@ pub fn weigh(
     requires { Ready s }
     ensures { (b : LoopBoard) → Comes s.set (L.weighed binary64 (set_of s) (next_of s (four u.old best.now y.old plus.now b)) (found_all s (four u.old best.now y.old plus.now b))) result (four u.new best.now y.new plus.now b) }
 {
-    let n = s.set.n;
-    let status = s.status;
-    vector_copies::copy_into(best, u, n);
+    vector_copies::copy_into(best, u, s.set.n);
     if is_exit_criterion_satisfied(s) {
         let t = counted(s, s.numbers.penalty, s.numbers.akkt_tolerance);
-        conclude(t, status)
+        conclude(t, s.status)
     } else {
-        let n1 = s.set.n1;
         let penalty = update_penalty_parameter(s);
         let akkt = update_inner_akkt_tolerance(s);
-        vector_copies::copy_into(plus, y, n1);
+        vector_copies::copy_into(plus, y, s.set.n1);
         let t = counted(s, penalty, akkt);
-        next_iteration(t, status)
+        next_iteration(t, s.status)
     }
 }
 
