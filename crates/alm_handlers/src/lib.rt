@@ -27,9 +27,8 @@ pub fn on_f2(
     requires { (Ready s) × (s.phase ≡ AlmPhase.F2) × (length v.now ≡ s.set.n2) }
     ensures { (b : LoopBoard) → Takes s (five u.old scratch.old best.now y.old plus.now b) Vector v.now result (five u.new scratch.new best.now y.new plus.now b) }
 {
-    let n2 = s.set.n2;
     vector_copies::take_into(v, scratch);
-    let norm = matrix_operations::norm2(scratch, n2);
+    let norm = matrix_operations::norm2(scratch, s.set.n2);
     let mut t = s;
     t.numbers.f2_norm_plus = norm;
     weigh(t, u, best, y, plus)
@@ -46,9 +45,8 @@ pub fn on_f1(
     requires { (Ready s) × (s.phase ≡ AlmPhase.F1) × (length v.now ≡ s.set.n1) }
     ensures { (b : LoopBoard) → Takes s (set_y y.now (set_y_plus plus.old (set_w w.old b))) Vector v.now result (set_y y.now (set_y_plus plus.new (set_w w.new b))) }
 {
-    let n1 = s.set.n1;
     vector_copies::take_into(v, w);
-    vector_updates::plus_over_into(s.numbers.penalty, w, y, plus, n1);
+    vector_updates::plus_over_into(s.numbers.penalty, w, y, plus, s.set.n1);
     asks(s, AlmPhase::ProjectC, AlmQuestion::ProjectC)
 }
 
@@ -90,10 +88,8 @@ pub fn on_time(s: Alm, yes: bool) -> AlmStepped
     ensures { (b : LoopBoard) → Takes s b (decided yes) [] result b }
 {
     if yes {
-        return iteration(s);
-    }
-    let outer = s.outer;
-    if outer.0 == 0 {
+        iteration(s)
+    } else if s.outer.0 == 0 {
         stops(s, 17)
     } else {
         conclude(s, ExitStatus::NotConvergedOutOfTime)
@@ -105,19 +101,12 @@ pub fn on_last_cost(s: Alm, x: f64) -> AlmStepped
     requires { (sized s ≡ true) × (s.phase ≡ AlmPhase.LastCost) }
     ensures { (b : LoopBoard) → Takes s b (Number x) [] result b }
 {
-    let delta = s.numbers.delta_y_norm;
-    let norm = s.numbers.f2_norm;
-    if delta != delta {
+    if s.numbers.delta_y_norm.is_nan() || s.numbers.f2_norm.is_nan() {
         return stops(s, 18);
     }
-    if norm != norm {
-        return stops(s, 18);
-    }
-    let status = handed_back(s, x);
-    let alm = at_phase(s, AlmPhase::Over);
     AlmStepped {
-        outcome: AlmOutcome::Ended(status),
-        alm,
+        outcome: AlmOutcome::Ended(handed_back(s, x)),
+        alm: at_phase(s, AlmPhase::Over),
     }
 }
 
@@ -125,18 +114,14 @@ pub fn on_last_cost(s: Alm, x: f64) -> AlmStepped
 pub fn handed_back(s: Alm, x: f64) -> AlmOptimizerStatus
     ensures { result ≡ status_at s x }
 {
-    let exit_status = s.status;
-    let num_outer_iterations = s.outer;
-    let num_inner_iterations = s.inner;
-    let penalty = penalty_of(s);
     AlmOptimizerStatus {
-        exit_status,
-        num_outer_iterations,
-        num_inner_iterations,
+        exit_status: s.status,
+        num_outer_iterations: s.outer,
+        num_inner_iterations: s.inner,
         last_problem_norm_fpr: s.numbers.norm_fpr,
         delta_y_norm: s.numbers.delta_y_norm,
         f2_norm: s.numbers.f2_norm,
-        penalty,
+        penalty: penalty_of(s),
         cost: x,
     }
 }
@@ -145,10 +130,9 @@ pub fn handed_back(s: Alm, x: f64) -> AlmOptimizerStatus
 pub fn penalty_of(s: Alm) -> f64
     ensures { result ≡ L.penalty_of (set_of s) s.numbers.penalty }
 {
-    if s.set.n1 == 0 {
-        if s.set.n2 == 0 {
-            return 0.0;
-        }
+    if s.set.n1 == 0 && s.set.n2 == 0 {
+        0.0
+    } else {
+        s.numbers.penalty
     }
-    s.numbers.penalty
 }

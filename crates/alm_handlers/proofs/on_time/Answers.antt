@@ -10,8 +10,8 @@ returns-then-yes c = λ b. time_yes c.args.s b _ c.requires.0 c.requires.1 _ c.i
 pub conclude-requires : goal.conclude-requires
 conclude-requires c = c.requires.0.0
 
-pub returns-then-outer-eq0 : goal.returns-then-outer-eq0
-returns-then-outer-eq0 c = λ b. time_first c.args.s b _ c.requires.0 c.requires.1 _ c.if-yes.false c.if-outer-eq0.true c.stops.ensures
+pub returns-then-s-eq0 : goal.returns-then-s-eq0
+returns-then-s-eq0 c = λ b. time_first c.args.s b _ c.requires.0 c.requires.1 _ c.if-yes.false c.if-s-eq0.true c.stops.ensures
 
-pub returns-else-outer-eq0 : goal.returns-else-outer-eq0
-returns-else-outer-eq0 c = λ b. time_out c.args.s b _ c.requires.0 c.requires.1 _ c.if-yes.false c.if-outer-eq0.false (c.conclude.ensures b)
+pub returns-else-s-eq0 : goal.returns-else-s-eq0
+returns-else-s-eq0 c = λ b. time_out c.args.s b _ c.requires.0 c.requires.1 _ c.if-yes.false c.if-s-eq0.false (c.conclude.ensures b)
