@@ -9,7 +9,7 @@ ghost use Rattle.alm_core.specs.Rest.{LoopBoard, next_of, carried_of};
 ghost use Rattle.alm_core.specs.Board.{Ready, Comes, Carries, EndsWithin, handed_as, set_of, four};
 
 use alm_core::alm_cache::{Alm, AlmPhase, AlmQuestion, AlmStepped};
-use alm_core::alm_steps::{asks, fails, stops, with_status};
+use alm_core::alm_steps::{asks, fails, stops};
 use alm_weigh::ask_f1;
 use panoc_core::panoc_cache::{Outcome, SolverStatus, Stepped};
 
@@ -26,15 +26,13 @@ pub fn on_solved(
     requires { (Ready s) × (r.solve.set.n ≡ s.set.n) × (status.iterations.0 ≤ 10000) }
     ensures { (b : LoopBoard) → Comes s.set (L.solved binary64 (set_of s) (next_of s (four u.old best.now y.old plus.now b)) (carried_of s (four u.old best.now y.old plus.now b)) (handed_as status (firsts s.set.n best.now))) result (four u.new best.now y.new plus.now b) }
 {
-    let solve = r.solve;
-    let found = status.iterations;
-    let end = status.exit_status;
-    let norm = status.norm_fpr;
-    let mut m = s;
-    m.solve = solve;
-    m.found = found;
-    m.numbers.norm_fpr = norm;
-    let t = with_status(m, end);
+    let mut t = Alm {
+        solve: r.solve,
+        found: status.iterations,
+        status: status.exit_status,
+        ..s
+    };
+    t.numbers.norm_fpr = status.norm_fpr;
     ask_f1(t, u, best, y, plus)
 }
 
@@ -50,12 +48,12 @@ pub fn on_inner(
     requires { (Ready s) × (r.solve.set.n ≡ s.set.n) × (EndsWithin r.outcome) }
     ensures { (b : LoopBoard) → Carries s r (four u.old best.now y.old plus.now b) result (four u.new best.now y.new plus.now b) }
 {
-    let outcome = r.outcome;
-    let solve = r.solve;
-    match outcome {
+    match r.outcome {
         Outcome::Asked(q) => {
-            let mut t = s;
-            t.solve = solve;
+            let t = Alm {
+                solve: r.solve,
+                ..s
+            };
             asks(t, AlmPhase::Inner, AlmQuestion::Inner(q))
         }
         Outcome::Ended(status) => on_solved(s, r, status, u, best, y, plus),
