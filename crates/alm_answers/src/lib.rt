@@ -11,7 +11,7 @@ ghost use Rattle.alm_core.specs.declared.alm_cache.AlmPhase.TheVariants as P;
 ghost use Rattle.alm_calls.specs.LoopCalls.{wanted_of, before, after};
 
 use alm_core::alm_cache::{Alm, AlmPhase, AlmStepped};
-use alm_core::alm_steps::{fails, stops};
+use alm_core::alm_steps::fails;
 use alm_handlers::{on_f1, on_f2, on_last_cost, on_project_c, on_project_y, on_time};
 use alm_inner::on_inner;
 use panoc_core::panoc_cache::Reply;
@@ -30,16 +30,12 @@ fn on_vector(
     requires { (answer_refusal (wanted_of s) (reply_of Vector) (length v.now) true ≡ 0) × (s.phase ≡ P.Inner → ⊥) }
     ensures { (b : LoopBoard) → Takes s (six u.old scratch.old best.now y.old plus.old w.old b) Vector v.now result (six u.new scratch.new best.now y.new plus.new w.new b) }
 {
-    let phase = s.phase;
-    match phase {
+    match s.phase {
         AlmPhase::ProjectY => on_project_y(s, v, y),
         AlmPhase::F1 => on_f1(s, v, y, plus, w),
         AlmPhase::ProjectC => on_project_c(s, v, u, scratch, best, y, plus, w),
         AlmPhase::F2 => on_f2(s, v, u, scratch, best, y, plus),
-        AlmPhase::Time => stops(s, 7),
-        AlmPhase::Inner => stops(s, 7),
-        AlmPhase::LastCost => stops(s, 7),
-        AlmPhase::Over => stops(s, 7),
+        _ => unreachable!(),
     }
 }
 
@@ -88,9 +84,8 @@ fn take_inner(
     requires { (answer_refusal (wanted_of s) (reply_of a) (length v.now) true ≡ 0) × (s.phase ≡ P.Inner) }
     ensures { Takes s (before u candidate gradient previous step half fpr direction best y plus w) a v.now result (after u candidate gradient previous step half fpr direction best y plus w) }
 {
-    let solve = s.solve;
     let r = panoc_answers::take(
-        solve, a, v, u, candidate, gradient, previous, step, half, fpr, direction, best,
+        s.solve, a, v, u, candidate, gradient, previous, step, half, fpr, direction, best,
     );
     on_inner(s, r, u, best, y, plus)
 }
@@ -99,17 +94,7 @@ fn take_inner(
 fn asks_inner(s: Alm) -> bool
     ensures { (result ≡ true → s.phase ≡ P.Inner) × (result ≡ false → s.phase ≡ P.Inner → ⊥) }
 {
-    let phase = s.phase;
-    match phase {
-        AlmPhase::Inner => true,
-        AlmPhase::Time => false,
-        AlmPhase::ProjectY => false,
-        AlmPhase::F1 => false,
-        AlmPhase::ProjectC => false,
-        AlmPhase::F2 => false,
-        AlmPhase::LastCost => false,
-        AlmPhase::Over => false,
-    }
+    matches!(s.phase, AlmPhase::Inner)
 }
 
 // An answer that nothing refuses. A plan stays in u, the multipliers in y_plus.

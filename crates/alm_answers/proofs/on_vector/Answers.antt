@@ -1,5 +1,6 @@
+use Rattle.alm_core.specs.declared.alm_cache.AlmPhase.{AlmPhase}
 use Rattle.alm_core.specs.declared.alm_cache.AlmPhase.TheVariants as P
-use Rattle.std.proofs.Common.{refl}
+use Rattle.std.proofs.Common.{◌≡◌, refl}
 use Rattle.alm_calls.proofs.LoopLaws.{vector_at, vector_not, vector_time, vector_number, vector_over}
 use Rattle.alm_core.specs.Board.{six}
 use Rattle.alm_answers.proofs.on_vector.Goals as goal
@@ -28,14 +29,15 @@ returns-in-ProjectC c = λ b. c.on_project_c.ensures (six c.args.u.now c.args.sc
 pub returns-in-F2 : goal.returns-in-F2
 returns-in-F2 c = λ b. c.on_f2.ensures (six c.args.u.now c.args.scratch.now c.args.best.now c.args.y.now c.args.plus.now c.args.w.now b)
 
-pub returns-in-Time : goal.returns-in-Time
-returns-in-Time c = vector_not c.args.s _ P.Time c.requires.0 c.in-Time.is (vector_time _)
-
-pub returns-in-Inner : goal.returns-in-Inner
-returns-in-Inner c = absurd (c.requires.1 c.in-Inner.is)
-
-pub returns-in-LastCost : goal.returns-in-LastCost
-returns-in-LastCost c = vector_not c.args.s _ P.LastCost c.requires.0 c.in-LastCost.is (vector_number _)
-
-pub returns-in-Over : goal.returns-in-Over
-returns-in-Over c = vector_not c.args.s _ P.Over c.requires.0 c.in-Over.is (vector_over _)
+pub unreachable-requires : goal.unreachable-requires
+unreachable-requires c = by c.args.s.phase refl
+  where
+    by : (p : AlmPhase) → c.args.s.phase ≡ p → ⊥
+    by P.Time e = vector_not c.args.s _ P.Time c.requires.0 e (vector_time _)
+    by P.ProjectY e = c.in_default.not-ProjectY e
+    by P.Inner e = c.requires.1 e
+    by P.F1 e = c.in_default.not-F1 e
+    by P.ProjectC e = c.in_default.not-ProjectC e
+    by P.F2 e = c.in_default.not-F2 e
+    by P.LastCost e = vector_not c.args.s _ P.LastCost c.requires.0 e (vector_number _)
+    by P.Over e = vector_not c.args.s _ P.Over c.requires.0 e (vector_over _)
