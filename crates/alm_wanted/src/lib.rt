@@ -12,87 +12,48 @@ use panoc_core::refusals::Wanted;
 use panoc_wanted::waits;
 
 // Sizes as document 01 has them.
+#[tactic(auto, unfolding(alm_core::specs::Rest::sized))]
 pub fn is_sized(s: Alm) -> bool
     ensures { result ≡ sized s }
 {
-    if 64 < s.set.n {
-        return false;
-    }
-    if 32 < s.set.n1 {
-        return false;
-    }
-    if 32 < s.set.n2 {
-        return false;
-    }
-    s.set.max_inner_iterations <= 10000
+    s.set.n <= 64 && s.set.n1 <= 32 && s.set.n2 <= 32 && s.set.max_inner_iterations <= 10000
 }
 
 // Counters in range, and an inner run of the same n.
+#[tactic(auto, unfolding(alm_core::specs::Rest::counts))]
 pub fn is_counted(s: Alm) -> bool
     ensures { result ≡ counts s }
 {
-    let left = s.left;
-    if 999 < left {
-        return false;
-    }
-    let outer = s.outer;
-    let k = outer.0;
-    if 999 - left < k {
-        return false;
-    }
-    let inner = s.inner;
-    if 10000 * k < inner.0 {
-        return false;
-    }
-    let found = s.found;
-    if 10000 < found.0 {
-        return false;
-    }
-    s.solve.set.n == s.set.n
+    s.left <= 999
+        && s.outer.0 <= 999 - s.left
+        && s.inner.0 <= 10000 * s.outer.0
+        && s.found.0 <= 10000
+        && s.solve.set.n == s.set.n
 }
 
 // A run that no start made counts as one that has ended.
+#[tactic(auto, unfolding(alm_core::specs::Rest::sound))]
 pub fn is_sound(s: Alm) -> bool
     ensures { result ≡ sound s }
 {
-    if is_sized(s) {
-        let phase = s.phase;
-        match phase {
-            AlmPhase::LastCost => true,
-            AlmPhase::Time => is_counted(s),
-            AlmPhase::ProjectY => is_counted(s),
-            AlmPhase::Inner => is_counted(s),
-            AlmPhase::F1 => is_counted(s),
-            AlmPhase::ProjectC => is_counted(s),
-            AlmPhase::F2 => is_counted(s),
-            AlmPhase::Over => is_counted(s),
-        }
-    } else {
-        false
-    }
+    is_sized(s) && (matches!(s.phase, AlmPhase::LastCost) || is_counted(s))
 }
 
 // What the run waits for.
+#[tactic(auto, unfolding(alm_calls::specs::LoopCalls::wanted_of))]
 pub fn wants(s: Alm) -> Option<Wanted>
     ensures { kind_of result ≡ wanted_of s }
 {
-    let n1 = s.set.n1;
-    let n2 = s.set.n2;
-    let phase = s.phase;
-    let solve = s.solve;
-    if is_sound(s) {
-        match phase {
-            AlmPhase::Time => Some(Wanted::Decision),
-            AlmPhase::ProjectY => Some(Wanted::Vector(n1)),
-            AlmPhase::Inner => panoc_wanted::wants(solve),
-            AlmPhase::F1 => Some(Wanted::Vector(n1)),
-            AlmPhase::ProjectC => Some(Wanted::Vector(n1)),
-            AlmPhase::F2 => Some(Wanted::Vector(n2)),
-            AlmPhase::LastCost => Some(Wanted::Number),
-            AlmPhase::Over => None,
-        }
-    } else {
-        None
+    if !is_sound(s) {
+        return None;
+    }
+    match s.phase {
+        AlmPhase::Time => Some(Wanted::Decision),
+        AlmPhase::ProjectY | AlmPhase::F1 | AlmPhase::ProjectC => Some(Wanted::Vector(s.set.n1)),
+        AlmPhase::Inner => panoc_wanted::wants(s.solve),
+        AlmPhase::F2 => Some(Wanted::Vector(s.set.n2)),
+        AlmPhase::LastCost => Some(Wanted::Number),
+        AlmPhase::Over => None,
     }
 }
 
