@@ -38,9 +38,8 @@ pub fn answer_in_place(
         let r = take(
             s, a, v, u, candidate, gradient, previous, step, half, fpr, direction, best, y, plus, w,
         );
-        let outcome = r.outcome;
-        hand_out(outcome, u, plan);
-        hand_out_xi(outcome, plus, xi);
+        hand_out(r.outcome, u, plan);
+        hand_out_xi(r.outcome, plus, xi);
         r
     } else {
         AlmStepped {
