@@ -37,19 +37,6 @@ use Rattle.alm_calls.specs.LoopCalls.{wanted_of, run_of, xi_given, asking, point
 use Rattle.alm_calls.proofs.LoopLaws.{wanted_is, wanted_sound, wanted_phase, xi_at}
 use Rattle.alm_vectors.specs.LoopPoints.{carries_xi, first_places, inner_second, second_places, first_at, second_at_phase}
 
--- ---- the length of xi
-pub xi_places_none : (n1 n2 : ℕ) → n1 ≡ 0 → n2 ≡ 0 → 0 ≡ xi_length n1 n2
-unfolding xi_length
-xi_places_none n1 n2 a b = rw (eq-eqb _ _ a, eq-eqb _ _ b)
-
-pub xi_places_n2 : (n1 n2 : ℕ) → n1 ≡ 0 → (n2 ≡ 0 → ⊥) → n1 + 1 ≡ xi_length n1 n2
-unfolding xi_length
-xi_places_n2 n1 n2 a b = rw (eq-eqb _ _ a, ne_eqb _ _ b)
-
-pub xi_places_n1 : (n1 n2 : ℕ) → (n1 ≡ 0 → ⊥) → n1 + 1 ≡ xi_length n1 n2
-unfolding xi_length
-xi_places_n1 n1 n2 a = rw (ne_eqb _ _ a)
-
 -- ---- the inner solve's question within the loop's
 module _ (xi : List Float) (next : M.Handed → M.Loop) where
   asking_within : (p : M.Solve) (q : M.Question) → Solve.asking p ≡ some q → asking (within (M.LoopQuestion.inner xi) next p) ≡ some (M.LoopQuestion.inner xi q)

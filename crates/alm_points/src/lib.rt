@@ -12,31 +12,23 @@ use alm_vectors::{carries_xi, first_point, second_point};
 use alm_wanted::is_waiting;
 
 // How many places xi has: none where n1 = n2 = 0, else the penalty's and n1.
+#[tactic(auto, unfolding(model::specs::Refusals::xi_length))]
 pub fn xi_places(n1: usize, n2: usize) -> usize
     requires { n1 ≤ 32 }
     ensures { result ≡ R.xi_length n1 n2 }
 {
-    if n1 == 0 {
-        if n2 == 0 { 0 } else { n1 + 1 }
-    } else {
-        n1 + 1
-    }
+    if n1 == 0 && n2 == 0 { 0 } else { n1 + 1 }
 }
 
 // How many places the first point of the question has.
 pub fn first_places(s: Alm) -> usize
     ensures { result ≡ first_places s s.phase }
 {
-    let phase = s.phase;
-    match phase {
-        AlmPhase::Time => 0,
-        AlmPhase::ProjectY => s.set.n1,
+    match s.phase {
+        AlmPhase::ProjectY | AlmPhase::ProjectC => s.set.n1,
         AlmPhase::Inner => panoc_places::first_places(s.solve),
-        AlmPhase::F1 => s.set.n,
-        AlmPhase::ProjectC => s.set.n1,
-        AlmPhase::F2 => s.set.n,
-        AlmPhase::LastCost => s.set.n,
-        AlmPhase::Over => 0,
+        AlmPhase::F1 | AlmPhase::F2 | AlmPhase::LastCost => s.set.n,
+        AlmPhase::Time | AlmPhase::Over => 0,
     }
 }
 
@@ -57,16 +49,10 @@ pub fn second_places(s: Alm) -> usize
     requires { s.set.n1 ≤ 32 }
     ensures { result ≡ second_places s s.phase }
 {
-    let phase = s.phase;
-    match phase {
-        AlmPhase::Time => 0,
-        AlmPhase::ProjectY => 0,
+    match s.phase {
         AlmPhase::Inner => inner_second_places(s),
-        AlmPhase::F1 => 0,
-        AlmPhase::ProjectC => 0,
-        AlmPhase::F2 => 0,
         AlmPhase::LastCost => xi_places(s.set.n1, s.set.n2),
-        AlmPhase::Over => 0,
+        _ => 0,
     }
 }
 
@@ -86,28 +72,23 @@ pub fn points_in_place<'a>(
 ) -> u32
     ensures { (b : LoopBoard) → Points (run_of s (asked u.now candidate.now step.now half.now fpr.now best.now y.now plus.now b)) first.old first.new second.old second.new result }
 {
-    if is_waiting(s) {
-        if first.len() != first_places(s) {
-            return 8;
-        }
-        if second.len() != second_places(s) {
-            return 8;
-        }
-        first_point(s, first, u, candidate, step, half, fpr, best, y, plus);
-        second_point(s, second, u, y);
-        0
-    } else {
-        6
+    if !is_waiting(s) {
+        return 6;
     }
+    if first.len() != first_places(s) || second.len() != second_places(s) {
+        return 8;
+    }
+    first_point(s, first, u, candidate, step, half, fpr, best, y, plus);
+    second_point(s, second, u, y);
+    0
 }
 
 // The points of the question of a run by value.
 pub fn points(run: AlmRun, first: &mut [f64], second: &mut [f64]) -> u32
     ensures { Points run first.old first.new second.old second.new result }
 {
-    let s = run.alm;
     points_in_place(
-        s,
+        run.alm,
         first,
         second,
         &run.u,
