@@ -38,8 +38,6 @@ pub extern "C" fn pozkerrin_inner_start(
     );
     let set = settings_given(n, max_iter, limited, tolerance, has_akkt, akkt_tolerance);
     let r = start_in_place(set, at, u);
-    let solve = r.solve;
-    let outcome = r.outcome;
-    keep(solve, w, k, f);
-    tell(outcome, w, k, f)
+    keep(r.solve, w, k, f);
+    tell(r.outcome, w, k, f)
 }
