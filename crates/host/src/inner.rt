@@ -4,6 +4,8 @@ ghost use Rattle.image.specs.Image.{solve_of, step_of};
 ghost use Rattle.host.specs.Exports.{Exported};
 
 use image::kinds::reply_of;
+use image::places::N;
+use image::told;
 use image_puts::note;
 use image_solve::refuse;
 use panoc_answers::lent::take_lent;
@@ -38,15 +40,15 @@ pub extern "C" fn pozkerrin_inner_answer(
         return refuse(waits(wanted), w);
     }
     let a = reply_of(kind, x, code);
-    let number = refusal(wanted, a, v.len(), plan.len() == k[3]);
+    let number = refusal(wanted, a, v.len(), plan.len() == k[N]);
     if number != 0 {
         note(number, w);
-        return 2;
+        return told::REFUSED;
     }
     let r = take_lent(
         a, v, w, k, f, u, plus, gradient, previous, step, half, fpr, direction, best,
     );
-    if r == 1 {
+    if r == told::ENDED {
         vector_copies::give(best, plan);
     }
     r

@@ -6,6 +6,8 @@ ghost use Rattle.panoc_core.specs.Board.{Board, run_of, gave, five, set_best};
 ghost use Rattle.panoc_core.specs.Calls.{Answers};
 ghost use Rattle.image.specs.Image.{solve_of, step_of};
 
+use image::places::N;
+use image::told;
 use image_puts::note;
 use panoc_core::panoc_cache::Reply;
 use panoc_core::refusals::refusal;
@@ -30,13 +32,13 @@ pub extern "C" fn pozkerrin_inner_number(
     ensures { (b : Board) → Answers (run_of (solve_of w.old k.old f.old) (set_best best.now (five u.now gradient.now step.old half.now fpr.old b))) (Reply.Number x) [] plan.old plan.new (gave (step_of result w.new k.new f.new) (set_best best.now (five u.now gradient.now step.new half.now fpr.new b))) }
 {
     let wanted = wants_lent(w, k);
-    let number = refusal(wanted, Reply::Number(x), 0, plan.len() == k[3]);
+    let number = refusal(wanted, Reply::Number(x), 0, plan.len() == k[N]);
     if number != 0 {
         note(number, w);
-        return 2;
+        return told::REFUSED;
     }
     let r = on_number(x, w, k, f, u, gradient, step, half, fpr);
-    if r == 1 {
+    if r == told::ENDED {
         vector_copies::give(best, plan);
     }
     r

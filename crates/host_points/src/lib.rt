@@ -8,6 +8,7 @@ ghost use Rattle.image.specs.Image.{solve_of};
 ghost use Rattle.host_points.specs.Places.{place_of, Lies};
 
 use image::kinds::phase_of;
+use image::places::PHASE;
 use image_solve::solve_of;
 use panoc_core::panoc_cache::Phase;
 use panoc_points::points_in_place;
@@ -29,8 +30,17 @@ pub extern "C" fn pozkerrin_inner_points<'a>(
 ) -> u32
     ensures { (b : Board) → Points (run_of (solve_of w.now k.now f.now) (asked u.now plus.now step.now half.now fpr.now best.now b)) first.old first.new second.old second.new result }
 {
-    let s = solve_of(w, k, f);
-    points_in_place(s, first, second, u, plus, step, half, fpr, best)
+    points_in_place(
+        solve_of(w, k, f),
+        first,
+        second,
+        u,
+        plus,
+        step,
+        half,
+        fpr,
+        best,
+    )
 }
 
 // The vector that holds the first point of a phase's question: 0 u, 1 the candidate, 2 the gradient step, 3 the half step, 4 the residual,
@@ -39,23 +49,12 @@ pub fn place_of(phase: Phase) -> u32
     ensures { result ≡ place_of phase }
 {
     match phase {
-        Phase::Over => 0,
-        Phase::Cost => 0,
-        Phase::Gradient => 0,
-        Phase::Shifted => 0,
-        Phase::Project => 2,
-        Phase::HalfCost => 3,
-        Phase::DoubledProject => 2,
-        Phase::DoubledCost => 3,
+        Phase::TriedCost | Phase::TriedGradient => 1,
+        Phase::Project | Phase::DoubledProject | Phase::FirstProject | Phase::TriedProject => 2,
+        Phase::HalfCost | Phase::DoubledCost => 3,
         Phase::Direction => 4,
-        Phase::FirstCost => 0,
-        Phase::FirstGradient => 0,
-        Phase::FirstProject => 2,
-        Phase::TriedCost => 1,
-        Phase::TriedGradient => 1,
-        Phase::TriedProject => 2,
-        Phase::Time => 0,
         Phase::LastCost => 5,
+        _ => 0,
     }
 }
 
@@ -64,5 +63,5 @@ pub fn place_of(phase: Phase) -> u32
 pub extern "C" fn pozkerrin_inner_place(w: &[u32; 6]) -> u32
     ensures { (k : List ℕ) (f : List Float) (b : Board) → Lies (run_of (solve_of w.now k f) b) b result }
 {
-    place_of(phase_of(w[0]))
+    place_of(phase_of(w[PHASE]))
 }

@@ -5,6 +5,8 @@ ghost use Rattle.panoc_core.specs.Board.{before, after, run_of, gave};
 ghost use Rattle.panoc_core.specs.Calls.{Answers};
 ghost use Rattle.image.specs.Image.{solve_of, step_of};
 
+use image::places::N;
+use image::told;
 use image_puts::note;
 use panoc_answers::lent::on_vector;
 use panoc_core::panoc_cache::Reply;
@@ -32,15 +34,15 @@ pub extern "C" fn pozkerrin_inner_vector(
     ensures { Answers (run_of (solve_of w.old k.old f.old) (before u plus gradient previous step half fpr direction best)) Reply.Vector v.now plan.old plan.new (gave (step_of result w.new k.new f.new) (after u plus gradient previous step half fpr direction best)) }
 {
     let wanted = wants_lent(w, k);
-    let number = refusal(wanted, Reply::Vector, v.len(), plan.len() == k[3]);
+    let number = refusal(wanted, Reply::Vector, v.len(), plan.len() == k[N]);
     if number != 0 {
         note(number, w);
-        return 2;
+        return told::REFUSED;
     }
     let r = on_vector(
         v, w, k, f, u, plus, gradient, previous, step, half, fpr, direction, best,
     );
-    if r == 1 {
+    if r == told::ENDED {
         vector_copies::give(best, plan);
     }
     r

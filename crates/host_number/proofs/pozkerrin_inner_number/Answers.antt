@@ -15,8 +15,8 @@ on_number-r-requires c = number_wanted _ c.args.x 0 (may (Number c.args.x) [] c.
 pub give-requires : goal.give-requires
 give-requires c = short (Number c.args.x) [] c.args.plan.now c.args.w.now c.args.k.now c.args.f.now (nine [] [] [] [] [] [] [] [] []) c.wants_lent-wanted.result (c.wants_lent-wanted.ensures c.args.f.now) _ c.refusal-number.result refl c.refusal-number.ensures c.if-number-ne0.false
 
-pub returns-then-r-eq1 : goal.returns-then-r-eq1
-returns-then-r-eq1 c = λ b. ended_as (Number c.args.x) [] c.args.plan.now c.args.w.now c.args.k.now c.args.f.now (set_best c.args.best.now (five c.args.u.now c.args.gradient.now c.args.step.now c.args.half.now c.args.fpr.now b)) c.wants_lent-wanted.result (c.wants_lent-wanted.ensures c.args.f.now) _ c.refusal-number.result refl c.refusal-number.ensures c.if-number-ne0.false _ c.on_number-r.result c.on_number-r.new.w c.on_number-r.new.k c.on_number-r.new.f (c.on_number-r.ensures (set_best c.args.best.now b)) _ c.if-r-eq1.true c.give.ensures
+pub returns-then-r-eq-ENDED : goal.returns-then-r-eq-ENDED
+returns-then-r-eq-ENDED c = λ b. ended_as (Number c.args.x) [] c.args.plan.now c.args.w.now c.args.k.now c.args.f.now (set_best c.args.best.now (five c.args.u.now c.args.gradient.now c.args.step.now c.args.half.now c.args.fpr.now b)) c.wants_lent-wanted.result (c.wants_lent-wanted.ensures c.args.f.now) _ c.refusal-number.result refl c.refusal-number.ensures c.if-number-ne0.false _ c.on_number-r.result c.on_number-r.new.w c.on_number-r.new.k c.on_number-r.new.f (c.on_number-r.ensures (set_best c.args.best.now b)) _ c.if-r-eq-ENDED.true c.give.ensures
 
-pub returns-else-r-eq1 : goal.returns-else-r-eq1
-returns-else-r-eq1 c = λ b. going_as (Number c.args.x) [] c.args.plan.now c.args.w.now c.args.k.now c.args.f.now (set_best c.args.best.now (five c.args.u.now c.args.gradient.now c.args.step.now c.args.half.now c.args.fpr.now b)) c.wants_lent-wanted.result (c.wants_lent-wanted.ensures c.args.f.now) _ c.refusal-number.result refl c.refusal-number.ensures c.if-number-ne0.false _ c.on_number-r.result c.on_number-r.new.w c.on_number-r.new.k c.on_number-r.new.f (c.on_number-r.ensures (set_best c.args.best.now b)) c.if-r-eq1.false
+pub returns-else-r-eq-ENDED : goal.returns-else-r-eq-ENDED
+returns-else-r-eq-ENDED c = λ b. going_as (Number c.args.x) [] c.args.plan.now c.args.w.now c.args.k.now c.args.f.now (set_best c.args.best.now (five c.args.u.now c.args.gradient.now c.args.step.now c.args.half.now c.args.fpr.now b)) c.wants_lent-wanted.result (c.wants_lent-wanted.ensures c.args.f.now) _ c.refusal-number.result refl c.refusal-number.ensures c.if-number-ne0.false _ c.on_number-r.result c.on_number-r.new.w c.on_number-r.new.k c.on_number-r.new.f (c.on_number-r.ensures (set_best c.args.best.now b)) c.if-r-eq-ENDED.false

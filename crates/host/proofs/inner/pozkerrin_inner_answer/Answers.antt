@@ -16,8 +16,8 @@ take_lent-r-requires c = may c.reply_of-a.result c.args.v.now c.args.plan.now c.
 pub give-requires : goal.give-requires
 give-requires c = short c.reply_of-a.result c.args.v.now c.args.plan.now c.args.w.now c.args.k.now c.args.f.now (nine c.args.u.now c.args.plus.now c.args.gradient.now c.args.previous.now c.args.step.now c.args.half.now c.args.fpr.now c.args.direction.now c.args.best.now) c.wants_lent-wanted.result (c.wants_lent-wanted.ensures c.args.f.now) _ c.refusal-number.result refl c.refusal-number.ensures c.if-number-ne0.false
 
-pub returns-then-r-eq1 : goal.returns-then-r-eq1
-returns-then-r-eq1 c = exported_as _ _ _ _ _ _ _ _ _ c.if-kind-gt4.false c.reply_of-a.ensures (ended_as c.reply_of-a.result c.args.v.now c.args.plan.now c.args.w.now c.args.k.now c.args.f.now (nine c.args.u.now c.args.plus.now c.args.gradient.now c.args.previous.now c.args.step.now c.args.half.now c.args.fpr.now c.args.direction.now c.args.best.now) c.wants_lent-wanted.result (c.wants_lent-wanted.ensures c.args.f.now) _ c.refusal-number.result refl c.refusal-number.ensures c.if-number-ne0.false _ c.take_lent-r.result c.take_lent-r.new.w c.take_lent-r.new.k c.take_lent-r.new.f c.take_lent-r.ensures _ c.if-r-eq1.true c.give.ensures)
+pub returns-then-r-eq-ENDED : goal.returns-then-r-eq-ENDED
+returns-then-r-eq-ENDED c = exported_as _ _ _ _ _ _ _ _ _ c.if-kind-gt4.false c.reply_of-a.ensures (ended_as c.reply_of-a.result c.args.v.now c.args.plan.now c.args.w.now c.args.k.now c.args.f.now (nine c.args.u.now c.args.plus.now c.args.gradient.now c.args.previous.now c.args.step.now c.args.half.now c.args.fpr.now c.args.direction.now c.args.best.now) c.wants_lent-wanted.result (c.wants_lent-wanted.ensures c.args.f.now) _ c.refusal-number.result refl c.refusal-number.ensures c.if-number-ne0.false _ c.take_lent-r.result c.take_lent-r.new.w c.take_lent-r.new.k c.take_lent-r.new.f c.take_lent-r.ensures _ c.if-r-eq-ENDED.true c.give.ensures)
 
-pub returns-else-r-eq1 : goal.returns-else-r-eq1
-returns-else-r-eq1 c = exported_as _ _ _ _ _ _ _ _ _ c.if-kind-gt4.false c.reply_of-a.ensures (going_as c.reply_of-a.result c.args.v.now c.args.plan.now c.args.w.now c.args.k.now c.args.f.now (nine c.args.u.now c.args.plus.now c.args.gradient.now c.args.previous.now c.args.step.now c.args.half.now c.args.fpr.now c.args.direction.now c.args.best.now) c.wants_lent-wanted.result (c.wants_lent-wanted.ensures c.args.f.now) _ c.refusal-number.result refl c.refusal-number.ensures c.if-number-ne0.false _ c.take_lent-r.result c.take_lent-r.new.w c.take_lent-r.new.k c.take_lent-r.new.f c.take_lent-r.ensures c.if-r-eq1.false)
+pub returns-else-r-eq-ENDED : goal.returns-else-r-eq-ENDED
+returns-else-r-eq-ENDED c = exported_as _ _ _ _ _ _ _ _ _ c.if-kind-gt4.false c.reply_of-a.ensures (going_as c.reply_of-a.result c.args.v.now c.args.plan.now c.args.w.now c.args.k.now c.args.f.now (nine c.args.u.now c.args.plus.now c.args.gradient.now c.args.previous.now c.args.step.now c.args.half.now c.args.fpr.now c.args.direction.now c.args.best.now) c.wants_lent-wanted.result (c.wants_lent-wanted.ensures c.args.f.now) _ c.refusal-number.result refl c.refusal-number.ensures c.if-number-ne0.false _ c.take_lent-r.result c.take_lent-r.new.w c.take_lent-r.new.k c.take_lent-r.new.f c.take_lent-r.ensures c.if-r-eq-ENDED.false)
