@@ -10,10 +10,12 @@ ghost use Rattle.alm_image.specs.AlmImage.{alm_of};
 
 use alm_core::alm_cache::{Alm, AlmPhase};
 use alm_image::kinds::alm_phase_of;
+use alm_image::places::{FOUND, INNER, LEFT, MAX_INNER, N, N1, N2, OUTER, PHASE};
 use panoc_core::refusals::Wanted;
 use panoc_wanted::wants_lent;
 
-// Sizes as document 01 has them.
+// Whether the sizes are in range.
+#[tactic(auto, unfolding(alm_core::specs::Rest::sized))]
 pub fn is_sized(
     w: &[u32; 6],
     k: &[usize; 6],
@@ -24,19 +26,11 @@ pub fn is_sized(
 ) -> bool
     ensures { result ≡ sized (alm_of w.now k.now f.now lw.now lk.now lf.now) }
 {
-    if 64 < lk[4] {
-        return false;
-    }
-    if 32 < lk[5] {
-        return false;
-    }
-    if 32 < lk[6] {
-        return false;
-    }
-    lk[7] <= 10000
+    lk[N] <= 64 && lk[N1] <= 32 && lk[N2] <= 32 && lk[MAX_INNER] <= 10000
 }
 
 // Counters in range, and an inner run of the same n.
+#[tactic(auto, unfolding(alm_core::specs::Rest::counts))]
 pub fn is_counted(
     w: &[u32; 6],
     k: &[usize; 6],
@@ -47,21 +41,11 @@ pub fn is_counted(
 ) -> bool
     ensures { result ≡ counts (alm_of w.now k.now f.now lw.now lk.now lf.now) }
 {
-    let left = lk[0];
-    let outer = lk[1];
-    if 999 < left {
-        return false;
-    }
-    if 999 - left < outer {
-        return false;
-    }
-    if 10000 * outer < lk[2] {
-        return false;
-    }
-    if 10000 < lk[3] {
-        return false;
-    }
-    k[3] == lk[4]
+    lk[LEFT] <= 999
+        && lk[OUTER] <= 999 - lk[LEFT]
+        && lk[INNER] <= 10000 * lk[OUTER]
+        && lk[FOUND] <= 10000
+        && k[image::places::N] == lk[N]
 }
 
 // A run that no start made counts as one that has ended.
@@ -75,15 +59,8 @@ pub fn is_sound(
 ) -> bool
     ensures { result ≡ sound (alm_of w.now k.now f.now lw.now lk.now lf.now) }
 {
-    if is_sized(w, k, f, lw, lk, lf) {
-        if lw[0] == 7 {
-            true
-        } else {
-            is_counted(w, k, f, lw, lk, lf)
-        }
-    } else {
-        false
-    }
+    is_sized(w, k, f, lw, lk, lf)
+        && (lw[PHASE] == AlmPhase::LastCost as u32 || is_counted(w, k, f, lw, lk, lf))
 }
 
 // What a run that waits with a question of the loop itself waits for.
@@ -93,13 +70,10 @@ pub fn wants_own(phase: AlmPhase, n1: usize, n2: usize) -> Option<Wanted>
 {
     match phase {
         AlmPhase::Time => Some(Wanted::Decision),
-        AlmPhase::ProjectY => Some(Wanted::Vector(n1)),
-        AlmPhase::Inner => None,
-        AlmPhase::F1 => Some(Wanted::Vector(n1)),
-        AlmPhase::ProjectC => Some(Wanted::Vector(n1)),
+        AlmPhase::ProjectY | AlmPhase::F1 | AlmPhase::ProjectC => Some(Wanted::Vector(n1)),
         AlmPhase::F2 => Some(Wanted::Vector(n2)),
         AlmPhase::LastCost => Some(Wanted::Number),
-        AlmPhase::Over => None,
+        AlmPhase::Inner | AlmPhase::Over => None,
     }
 }
 
@@ -114,13 +88,12 @@ pub fn wants(
 ) -> Option<Wanted>
     ensures { kind_of result ≡ wanted_of (alm_of w.now k.now f.now lw.now lk.now lf.now) }
 {
-    if is_sound(w, k, f, lw, lk, lf) {
-        if lw[0] == 3 {
-            wants_lent(w, k)
-        } else {
-            wants_own(alm_phase_of(lw[0]), lk[5], lk[6])
-        }
+    if !is_sound(w, k, f, lw, lk, lf) {
+        return None;
+    }
+    if lw[PHASE] == AlmPhase::Inner as u32 {
+        wants_lent(w, k)
     } else {
-        None
+        wants_own(alm_phase_of(lw[PHASE]), lk[N1], lk[N2])
     }
 }

@@ -9,17 +9,14 @@ ghost use Rattle.lent_places.specs.Handing.{HandsOut};
 use alm_calls::lent::{hand_out, hand_out_xi};
 use alm_core::alm_cache::AlmStepped;
 use alm_image::lent::{keep_alm, tell_alm};
+use alm_image::places::{N, N1, N2};
 use start_sizes::xi_fits;
 
 // Whether the lent u and xi have the lengths asked.
 pub fn fits(lk: &[usize; 10], us: usize, places: usize) -> bool
     ensures { result ≡ (eqb us (get_or lk.now 4 0) && eqb places (xi_length (get_or lk.now 5 0) (get_or lk.now 6 0))) }
 {
-    if us == lk[4] {
-        xi_fits(lk[5], lk[6], places)
-    } else {
-        false
-    }
+    us == lk[N] && xi_fits(lk[N1], lk[N2], places)
 }
 
 // What a step of the loop gave: the lent places of an end, and all numbers.
@@ -39,10 +36,8 @@ pub fn finish(
     requires { (length plan.old ≤ 64) × (length xi.old ≤ 33) × (settings_of lw.old lk.old lf.old ≡ o.alm.set) }
     ensures { (step_of result w.new k.new f.new lw.new lk.new lf.new ≡ o) × (HandsOut o u.now plus.now plan.old plan.new xi.old xi.new) }
 {
-    let outcome = o.outcome;
-    let alm = o.alm;
-    hand_out(outcome, u, plan);
-    hand_out_xi(outcome, plus, xi);
-    keep_alm(alm, w, k, f, lw, lk, lf);
-    tell_alm(outcome, w, k, f, lk, lf)
+    hand_out(o.outcome, u, plan);
+    hand_out_xi(o.outcome, plus, xi);
+    keep_alm(o.alm, w, k, f, lw, lk, lf);
+    tell_alm(o.outcome, w, k, f, lk, lf)
 }
