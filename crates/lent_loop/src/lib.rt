@@ -9,6 +9,7 @@ ghost use Rattle.lent_loop.specs.Lent.{Reached, Carried};
 
 use alm_image::lent::alm_of;
 use alm_inner::on_inner;
+use image::told;
 use image_solve::step_of;
 use lent_places::finish;
 use lent_question::settle_question;
@@ -32,9 +33,9 @@ pub fn carry(
     requires { (length plan.old ≤ 64) × (length xi.old ≤ 33) × (get_or lw.old 0 0 ≡ 3) × (Ready (alm_of w.old k.old f.old lw.old lk.old lf.old)) × (get_or k.old 3 0 ≡ get_or lk.old 4 0) × (EndsWithin (I.outcome_of r w.old k.old f.old)) × (Reached (alm_of w.old k.old f.old lw.old lk.old lf.old) (I.step_of r w.old k.old f.old) u.old best.now) }
     ensures { Carried (alm_of w.old k.old f.old lw.old lk.old lf.old) (I.step_of r w.old k.old f.old) (step_of result w.new k.new f.new lw.new lk.new lf.new) u.old best.now y.old plus.now u.new y.new plan.old plan.new xi.old xi.new }
 {
-    if r == 0 {
+    if r == told::ASKED {
         settle_question(w);
-        return 0;
+        return told::ASKED;
     }
     let inner = step_of(r, w, k, f);
     let s = alm_of(w, k, f, lw, lk, lf);
