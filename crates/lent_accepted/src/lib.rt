@@ -5,6 +5,8 @@ ghost use Rattle.alm_calls.specs.LoopCalls.{Answers, before, after, run_of, gave
 ghost use Rattle.alm_image.specs.AlmImage.{alm_of, step_of};
 ghost use Rattle.lent_loop.specs.Lent.{Accepted};
 
+use alm_core::alm_cache::AlmPhase;
+use alm_image::places::PHASE;
 use lent_loop::carry;
 use lent_own::own;
 use panoc_answers::lent::take_lent;
@@ -38,7 +40,7 @@ pub fn answer_accepted(
     requires { Accepted (alm_of w.old k.old f.old lw.old lk.old lf.old) a v.now plan.old xi.old }
     ensures { Answers (run_of (alm_of w.old k.old f.old lw.old lk.old lf.old) (before u candidate gradient previous step half fpr direction best y plus f1)) a v.now plan.old plan.new xi.old xi.new (gave (step_of result w.new k.new f.new lw.new lk.new lf.new) (after u candidate gradient previous step half fpr direction best y plus f1)) }
 {
-    if lw[0] == 3 {
+    if lw[PHASE] == AlmPhase::Inner as u32 {
         let r = take_lent(
             a, v, w, k, f, u, candidate, gradient, previous, step, half, fpr, direction, best,
         );
