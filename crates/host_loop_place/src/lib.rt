@@ -9,6 +9,7 @@ ghost use Rattle.host_loop_place.specs.Places.{place_of, Lies};
 
 use alm_core::alm_cache::AlmPhase;
 use alm_image::kinds::alm_phase_of;
+use alm_image::places::PHASE;
 use host_points::place_of;
 use image::kinds::phase_of;
 use panoc_core::panoc_cache::Phase;
@@ -19,14 +20,10 @@ fn own_place_of(phase: AlmPhase) -> u32
     ensures { (p : Phase) → result ≡ place_of phase p }
 {
     match phase {
-        AlmPhase::Over => 0,
-        AlmPhase::Time => 0,
         AlmPhase::ProjectY => 6,
-        AlmPhase::Inner => 0,
-        AlmPhase::F1 => 5,
+        AlmPhase::F1 | AlmPhase::F2 => 5,
         AlmPhase::ProjectC => 7,
-        AlmPhase::F2 => 5,
-        AlmPhase::LastCost => 0,
+        _ => 0,
     }
 }
 
@@ -36,9 +33,9 @@ fn own_place_of(phase: AlmPhase) -> u32
 pub extern "C" fn pozkerrin_loop_place(w: &[u32; 6], lw: &[u32; 4]) -> u32
     ensures { (k lk : List ℕ) (f lf : List Float) (b : LoopBoard) → Lies (alm_of w.now k f lw.now lk lf) b result }
 {
-    if lw[0] == 3 {
-        place_of(phase_of(w[0]))
+    if lw[PHASE] == AlmPhase::Inner as u32 {
+        place_of(phase_of(w[image::places::PHASE]))
     } else {
-        own_place_of(alm_phase_of(lw[0]))
+        own_place_of(alm_phase_of(lw[PHASE]))
     }
 }

@@ -76,8 +76,6 @@ pub extern "C" fn pozkerrin_loop_start(
         coefficient,
     );
     let r = start_in_place(set, at, xi, u, y, plus);
-    let alm = r.alm;
-    let outcome = r.outcome;
-    keep_alm(alm, w, k, f, lw, lk, lf);
-    tell_alm(outcome, w, k, f, lk, lf)
+    keep_alm(r.alm, w, k, f, lw, lk, lf);
+    tell_alm(r.outcome, w, k, f, lk, lf)
 }

@@ -10,10 +10,10 @@ use Rattle.std.proofs.Common.{ap, sym, ◌∙◌}
 use Rattle.host_loop_place.proofs.pozkerrin_loop_place.Goals as goal
 
 pub own_place_of-requires : goal.own_place_of-requires
-own_place_of-requires c = λ e. not_inner _ c.if-lw-eq3.false (sym c.alm_phase_of.ensures ∙ e)
+own_place_of-requires c = λ e. not_inner _ c.if-lw.false (sym c.alm_phase_of.ensures ∙ e)
 
-pub returns-then-lw-eq3 : goal.returns-then-lw-eq3
-returns-then-lw-eq3 c = λ k lk f lf b. lies (alm_of c.args.w.now k f c.args.lw.now lk lf) b _ (c.place_of.ensures ∙ ap Inner.place_of c.phase_of.ensures ∙ ap (λ (p : AlmPhase). place_of p (I.phase_of (get_or c.args.w.now 0 0))) (sym (ap phase_of c.if-lw-eq3.true)))
+pub returns-then-lw : goal.returns-then-lw
+returns-then-lw c = λ k lk f lf b. lies (alm_of c.args.w.now k f c.args.lw.now lk lf) b _ (c.place_of.ensures ∙ ap Inner.place_of c.phase_of.ensures ∙ ap (λ (p : AlmPhase). place_of p (I.phase_of (get_or c.args.w.now 0 0))) (sym (ap phase_of c.if-lw.true)))
 
-pub returns-else-lw-eq3 : goal.returns-else-lw-eq3
-returns-else-lw-eq3 c = λ k lk f lf b. lies (alm_of c.args.w.now k f c.args.lw.now lk lf) b _ (c.own_place_of.ensures (I.phase_of (get_or c.args.w.now 0 0)) ∙ ap (λ (p : AlmPhase). place_of p (I.phase_of (get_or c.args.w.now 0 0))) c.alm_phase_of.ensures)
+pub returns-else-lw : goal.returns-else-lw
+returns-else-lw c = λ k lk f lf b. lies (alm_of c.args.w.now k f c.args.lw.now lk lf) b _ (c.own_place_of.ensures (I.phase_of (get_or c.args.w.now 0 0)) ∙ ap (λ (p : AlmPhase). place_of p (I.phase_of (get_or c.args.w.now 0 0))) c.alm_phase_of.ensures)
