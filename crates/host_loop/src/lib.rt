@@ -7,6 +7,7 @@ ghost use Rattle.host_loop.specs.Exports.{Exported};
 
 use alm_waiting::wants;
 use image::kinds::reply_of;
+use image::told;
 use image_puts::note;
 use image_solve::refuse;
 use lent_accepted::answer_accepted;
@@ -53,7 +54,7 @@ pub extern "C" fn pozkerrin_loop_answer(
     let number = refusal(wanted, a, v.len(), fits);
     if number != 0 {
         note(number, w);
-        return 2;
+        return told::REFUSED;
     }
     answer_accepted(
         w, k, f, lw, lk, lf, a, v, plan, xi, u, candidate, gradient, previous, step, half, fpr,

@@ -7,7 +7,10 @@ ghost use Rattle.alm_calls.specs.LoopCalls.{Answers, run_of, gave};
 ghost use Rattle.alm_image.specs.AlmImage.{alm_of, step_of};
 ghost use Rattle.host_loop_number.specs.Eight.{eight};
 
+use alm_core::alm_cache::AlmPhase;
+use alm_image::places::PHASE;
 use alm_waiting::wants;
+use image::told;
 use image_puts::note;
 use lent_loop::carry;
 use lent_own::own_number;
@@ -44,9 +47,9 @@ pub extern "C" fn pozkerrin_loop_number(
     let number = refusal(wanted, Reply::Number(x), 0, fits);
     if number != 0 {
         note(number, w);
-        return 2;
+        return told::REFUSED;
     }
-    if lw[0] == 3 {
+    if lw[PHASE] == AlmPhase::Inner as u32 {
         let r = on_number(x, w, k, f, u, gradient, step, half, fpr);
         return carry(r, w, k, f, lw, lk, lf, plan, xi, u, best, y, plus);
     }

@@ -24,14 +24,12 @@ pub extern "C" fn pozkerrin_loop_second(
 ) -> u32
     ensures { (b : LoopBoard) → Second (run_of (alm_of w.now k.now f.now lw.now lk.now lf.now) (set_u u.now (set_y y.now b))) second.old second.new result }
 {
-    let wanted = wants(w, k, f, lw, lk, lf);
-    if waits(wanted) {
-        if second.len() != places(w, k, f, lw, lk, lf) {
-            return 8;
-        }
-        fill_second(w, k, f, lw, lk, lf, second, u, y);
-        0
-    } else {
-        6
+    if !waits(wants(w, k, f, lw, lk, lf)) {
+        return 6;
     }
+    if second.len() != places(w, k, f, lw, lk, lf) {
+        return 8;
+    }
+    fill_second(w, k, f, lw, lk, lf, second, u, y);
+    0
 }

@@ -5,6 +5,8 @@ ghost use Rattle.alm_vectors.specs.LoopPoints.{second_places, second_at_phase};
 ghost use Rattle.alm_image.specs.AlmImage.{phase_of, alm_of};
 
 use alm_calls::lent::fill_xi;
+use alm_core::alm_cache::AlmPhase;
+use alm_image::places::{N1, N2, PENALTY, PHASE};
 use alm_points::xi_places;
 use alm_vectors::carries_xi_at;
 use image::kinds::phase_of;
@@ -23,15 +25,15 @@ pub fn places(
     requires { get_or lk.now 5 0 ≤ 32 }
     ensures { result ≡ second_places (alm_of w.now k.now f.now lw.now lk.now lf.now) (phase_of (get_or lw.now 0 0)) }
 {
-    if lw[0] == 3 {
-        let phase = phase_of(w[0]);
+    if lw[PHASE] == AlmPhase::Inner as u32 {
+        let phase = phase_of(w[image::places::PHASE]);
         if carries_xi_at(phase) {
-            return xi_places(lk[5], lk[6]);
+            return xi_places(lk[N1], lk[N2]);
         }
-        return second_places_at(k[3], phase);
+        return second_places_at(k[image::places::N], phase);
     }
-    if lw[0] == 7 {
-        return xi_places(lk[5], lk[6]);
+    if lw[PHASE] == AlmPhase::LastCost as u32 {
+        return xi_places(lk[N1], lk[N2]);
     }
     0
 }
@@ -51,16 +53,15 @@ pub fn fill_second(
     requires { (Sound (alm_of w.now k.now f.now lw.now lk.now lf.now)) × (length second.old ≡ second_places (alm_of w.now k.now f.now lw.now lk.now lf.now) (phase_of (get_or lw.now 0 0))) }
     ensures { second.new ≡ second_at_phase (alm_of w.now k.now f.now lw.now lk.now lf.now) u.now y.now (phase_of (get_or lw.now 0 0)) second.old }
 {
-    if lw[0] == 3 {
-        let phase = phase_of(w[0]);
-        if carries_xi_at(phase) {
-            fill_xi(lf[0], y, second);
+    if lw[PHASE] == AlmPhase::Inner as u32 {
+        if carries_xi_at(phase_of(w[image::places::PHASE])) {
+            fill_xi(lf[PENALTY], y, second);
         } else {
             give(u, second);
         }
         return;
     }
-    if lw[0] == 7 {
+    if lw[PHASE] == AlmPhase::LastCost as u32 {
         fill_xi(0.0, y, second);
     }
 }

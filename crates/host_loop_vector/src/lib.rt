@@ -5,6 +5,7 @@ ghost use Rattle.alm_calls.specs.LoopCalls.{Answers, before, after, run_of, gave
 ghost use Rattle.alm_image.specs.AlmImage.{alm_of, step_of};
 
 use alm_waiting::wants;
+use image::told;
 use image_puts::note;
 use lent_accepted::answer_accepted;
 use lent_places::fits;
@@ -43,7 +44,7 @@ pub extern "C" fn pozkerrin_loop_vector(
     let number = refusal(wanted, Reply::Vector, v.len(), fits);
     if number != 0 {
         note(number, w);
-        return 2;
+        return told::REFUSED;
     }
     answer_accepted(
         w,

@@ -10,16 +10,16 @@ pub returns-then-number-ne0 : goal.returns-then-number-ne0
 returns-then-number-ne0 c = λ b. refused_as (Number c.args.x) [] c.args.plan.now c.args.xi.now c.args.w.now c.args.k.now c.args.f.now c.args.lw.now c.args.lk.now c.args.lf.now c.wants-wanted.result c.wants-wanted.ensures c.fits-fits.result c.refusal-number.result c.fits-fits.ensures c.refusal-number.ensures (eight c.args.u.now c.args.gradient.now c.args.step.now c.args.half.now c.args.fpr.now c.args.best.now c.args.y.now c.args.plus.now b) _ c.if-number-ne0.true c.note.ensures
 
 pub on_number-r-requires : goal.on_number-r-requires
-on_number-r-requires c = number_wanted _ c.args.x 0 (take_may c.args.w.now c.args.k.now c.args.f.now c.args.lw.now c.args.lk.now c.args.lf.now (Number c.args.x) [] c.args.plan.now c.args.xi.now (accepted_as (Number c.args.x) [] c.args.plan.now c.args.xi.now c.args.w.now c.args.k.now c.args.f.now c.args.lw.now c.args.lk.now c.args.lf.now c.wants-wanted.result c.wants-wanted.ensures c.fits-fits.result c.refusal-number.result c.fits-fits.ensures c.refusal-number.ensures c.if-number-ne0.false) c.if-lw-eq3.true)
+on_number-r-requires c = number_wanted _ c.args.x 0 (take_may c.args.w.now c.args.k.now c.args.f.now c.args.lw.now c.args.lk.now c.args.lf.now (Number c.args.x) [] c.args.plan.now c.args.xi.now (accepted_as (Number c.args.x) [] c.args.plan.now c.args.xi.now c.args.w.now c.args.k.now c.args.f.now c.args.lw.now c.args.lk.now c.args.lf.now c.wants-wanted.result c.wants-wanted.ensures c.fits-fits.result c.refusal-number.result c.fits-fits.ensures c.refusal-number.ensures c.if-number-ne0.false) c.if-lw.true)
 
 pub carry-requires : goal.carry-requires
-carry-requires c = carry_may c.args.w.now c.args.k.now c.args.f.now c.args.lw.now c.args.lk.now c.args.lf.now (Number c.args.x) [] c.args.plan.now c.args.xi.now (accepted_as (Number c.args.x) [] c.args.plan.now c.args.xi.now c.args.w.now c.args.k.now c.args.f.now c.args.lw.now c.args.lk.now c.args.lf.now c.wants-wanted.result c.wants-wanted.ensures c.fits-fits.result c.refusal-number.result c.fits-fits.ensures c.refusal-number.ensures c.if-number-ne0.false) c.if-lw-eq3.true (eight c.args.u.now c.args.gradient.now c.args.step.now c.args.half.now c.args.fpr.now c.args.best.now c.args.y.now c.args.plus.now blank) _ c.on_number-r.result c.on_number-r.new.w c.on_number-r.new.k c.on_number-r.new.f (c.on_number-r.ensures (set_best c.args.best.now blank.inner))
+carry-requires c = carry_may c.args.w.now c.args.k.now c.args.f.now c.args.lw.now c.args.lk.now c.args.lf.now (Number c.args.x) [] c.args.plan.now c.args.xi.now (accepted_as (Number c.args.x) [] c.args.plan.now c.args.xi.now c.args.w.now c.args.k.now c.args.f.now c.args.lw.now c.args.lk.now c.args.lf.now c.wants-wanted.result c.wants-wanted.ensures c.fits-fits.result c.refusal-number.result c.fits-fits.ensures c.refusal-number.ensures c.if-number-ne0.false) c.if-lw.true (eight c.args.u.now c.args.gradient.now c.args.step.now c.args.half.now c.args.fpr.now c.args.best.now c.args.y.now c.args.plus.now blank) _ c.on_number-r.result c.on_number-r.new.w c.on_number-r.new.k c.on_number-r.new.f (c.on_number-r.ensures (set_best c.args.best.now blank.inner))
 
-pub returns-then-lw-eq3 : goal.returns-then-lw-eq3
-returns-then-lw-eq3 c = λ b. carried_answers c.args.w.now c.args.k.now c.args.f.now c.args.lw.now c.args.lk.now c.args.lf.now (Number c.args.x) [] c.args.plan.now c.args.xi.now (accepted_as (Number c.args.x) [] c.args.plan.now c.args.xi.now c.args.w.now c.args.k.now c.args.f.now c.args.lw.now c.args.lk.now c.args.lf.now c.wants-wanted.result c.wants-wanted.ensures c.fits-fits.result c.refusal-number.result c.fits-fits.ensures c.refusal-number.ensures c.if-number-ne0.false) c.if-lw-eq3.true (eight c.args.u.now c.args.gradient.now c.args.step.now c.args.half.now c.args.fpr.now c.args.best.now c.args.y.now c.args.plus.now b) _ c.on_number-r.result c.on_number-r.new.w c.on_number-r.new.k c.on_number-r.new.f (c.on_number-r.ensures (set_best c.args.best.now b.inner)) _ _ _ _ _ c.carry.ensures
+pub returns-then-lw : goal.returns-then-lw
+returns-then-lw c = λ b. carried_answers c.args.w.now c.args.k.now c.args.f.now c.args.lw.now c.args.lk.now c.args.lf.now (Number c.args.x) [] c.args.plan.now c.args.xi.now (accepted_as (Number c.args.x) [] c.args.plan.now c.args.xi.now c.args.w.now c.args.k.now c.args.f.now c.args.lw.now c.args.lk.now c.args.lf.now c.wants-wanted.result c.wants-wanted.ensures c.fits-fits.result c.refusal-number.result c.fits-fits.ensures c.refusal-number.ensures c.if-number-ne0.false) c.if-lw.true (eight c.args.u.now c.args.gradient.now c.args.step.now c.args.half.now c.args.fpr.now c.args.best.now c.args.y.now c.args.plus.now b) _ c.on_number-r.result c.on_number-r.new.w c.on_number-r.new.k c.on_number-r.new.f (c.on_number-r.ensures (set_best c.args.best.now b.inner)) _ _ _ _ _ c.carry.ensures
 
 pub own_number-requires : goal.own_number-requires
-own_number-requires c = (accepted_as (Number c.args.x) [] c.args.plan.now c.args.xi.now c.args.w.now c.args.k.now c.args.f.now c.args.lw.now c.args.lk.now c.args.lf.now c.wants-wanted.result c.wants-wanted.ensures c.fits-fits.result c.refusal-number.result c.fits-fits.ensures c.refusal-number.ensures c.if-number-ne0.false, c.if-lw-eq3.false)
+own_number-requires c = (accepted_as (Number c.args.x) [] c.args.plan.now c.args.xi.now c.args.w.now c.args.k.now c.args.f.now c.args.lw.now c.args.lk.now c.args.lf.now c.wants-wanted.result c.wants-wanted.ensures c.fits-fits.result c.refusal-number.result c.fits-fits.ensures c.refusal-number.ensures c.if-number-ne0.false, c.if-lw.false)
 
 pub returns : goal.returns
 returns c = λ b. c.own_number.ensures (eight c.args.u.now c.args.gradient.now c.args.step.now c.args.half.now c.args.fpr.now c.args.best.now c.args.y.now c.args.plus.now b)

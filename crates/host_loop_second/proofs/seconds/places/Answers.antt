@@ -6,13 +6,13 @@ use Rattle.std.proofs.Common.{ap, ◌∙◌}
 use Rattle.host_loop_second.proofs.seconds.places.Goals as goal
 
 pub returns-then-carries_xi_at : goal.returns-then-carries_xi_at
-returns-then-carries_xi_at c = places_xi c.args.w.now c.args.k.now c.args.f.now c.args.lw.now c.args.lk.now c.args.lf.now c.if-lw-eq3.true _ (c.carries_xi_at.ensures ∙ ap carries_xi c.phase_of-phase.ensures) _ c.if-carries_xi_at.true c.xi_places.ensures
+returns-then-carries_xi_at c = places_xi c.args.w.now c.args.k.now c.args.f.now c.args.lw.now c.args.lk.now c.args.lf.now c.if-lw.true _ (c.carries_xi_at.ensures ∙ ap carries_xi c.phase_of-phase.ensures) _ c.if-carries_xi_at.true c.xi_places.ensures
 
-pub returns-then-lw-eq3 : goal.returns-then-lw-eq3
-returns-then-lw-eq3 c = places_own c.args.w.now c.args.k.now c.args.f.now c.args.lw.now c.args.lk.now c.args.lf.now c.if-lw-eq3.true _ (c.carries_xi_at.ensures ∙ ap carries_xi c.phase_of-phase.ensures) _ c.if-carries_xi_at.false (c.second_places_at.ensures ∙ ap (second_places _) c.phase_of-phase.ensures)
+pub returns-then-lw : goal.returns-then-lw
+returns-then-lw c = places_own c.args.w.now c.args.k.now c.args.f.now c.args.lw.now c.args.lk.now c.args.lf.now c.if-lw.true _ (c.carries_xi_at.ensures ∙ ap carries_xi c.phase_of-phase.ensures) _ c.if-carries_xi_at.false (c.second_places_at.ensures ∙ ap (second_places _) c.phase_of-phase.ensures)
 
-pub returns-then-lw-eq7 : goal.returns-then-lw-eq7
-returns-then-lw-eq7 c = places_last c.args.w.now c.args.k.now c.args.f.now c.args.lw.now c.args.lk.now c.args.lf.now c.if-lw-eq7.true _ c.xi_places-then-lw-eq7.ensures
+pub returns-then-lw-2 : goal.returns-then-lw-2
+returns-then-lw-2 c = places_last c.args.w.now c.args.k.now c.args.f.now c.args.lw.now c.args.lk.now c.args.lf.now c.if-lw-2.true _ c.xi_places-then-lw-2.ensures
 
 pub returns : goal.returns
-returns c = places_none (alm_of c.args.w.now c.args.k.now c.args.f.now c.args.lw.now c.args.lk.now c.args.lf.now) _ c.if-lw-eq3.false c.if-lw-eq7.false
+returns c = places_none (alm_of c.args.w.now c.args.k.now c.args.f.now c.args.lw.now c.args.lk.now c.args.lf.now) _ c.if-lw.false c.if-lw-2.false
