@@ -22,7 +22,7 @@ use Rattle.model.specs.Loop as L
 use Rattle.model.specs.Loop.{xi_of}
 use Rattle.model.specs.Refusals as R
 use Rattle.model.specs.Refusals.{answer_refusal, fits_kind, fits_length, fits_places, as_number, as_vector, as_decision, wanted, accept, replied, go_on, remains, xi_length}
-use Rattle.panoc_core.specs.Values.{reply_of, kind_of, decided}
+use Rattle.panoc_core.specs.Values.{reply_of, kind_of, decided, Says, Step}
 use Rattle.panoc_core.specs.Rest as InnerRest
 use Rattle.panoc_core.specs.Board as InnerBoard
 use Rattle.panoc_core.specs.Board.{Board}
@@ -36,12 +36,10 @@ use Rattle.panoc_core.specs.declared.panoc_cache.Settings.{Settings}
 use Rattle.std.specs.Prelude.{Some}
 use Rattle.panoc_core.specs.declared.panoc_cache.ExitStatus.TheVariants as E
 use Rattle.panoc_core.specs.declared.panoc_cache.Solve.{Solve}
-use Rattle.panoc_core.specs.declared.panoc_cache.Stepped.{Stepped}
 use Rattle.panoc_core.specs.declared.panoc_cache.Run.{Run}
-use Rattle.panoc_core.specs.declared.panoc_cache.Outcome.{Outcome}
 use Rattle.panoc_core.specs.declared.refusals.Wanted.{Wanted}
 use Rattle.std.specs.Prelude as Std
-use Rattle.alm_core.specs.Values.{settings_of, said}
+use Rattle.alm_core.specs.Values.{settings_of, said, LoopSays, LoopStep}
 use Rattle.alm_core.specs.Rest.{LoopBoard, rest, resume, sized, counts, sound, is_last, next_of, state_of, carried_of, y_of}
 use Rattle.alm_core.specs.Board.{Ready, Sound, Comes, Takes, Carries, EndsWithin, given, given_xi, set_of, stepped, four, set_u, set_y, set_y_plus}
 use Rattle.alm_core.specs.Laws.{rest_at, rest_over, sized_n, sized_n1, counts_n, counts_made}
@@ -50,9 +48,7 @@ use Rattle.alm_core.specs.declared.alm_cache.Alm.{Alm}
 use Rattle.alm_core.specs.declared.alm_cache.AlmPhase.{AlmPhase}
 use Rattle.alm_core.specs.declared.alm_cache.AlmPhase.TheVariants as P
 use Rattle.alm_core.specs.declared.alm_cache.AlmSettings.{AlmSettings}
-use Rattle.alm_core.specs.declared.alm_cache.AlmOutcome.{AlmOutcome}
-use Rattle.alm_core.specs.declared.alm_cache.AlmOutcome.TheVariants as O
-use Rattle.alm_core.specs.declared.alm_cache.AlmStepped.{AlmStepped}
+use Rattle.panoc_core.specs.Told as O
 use Rattle.start_sizes.specs.SizeLaws.{xi_length_lem, xi_short}
 use Rattle.alm_calls.specs.LoopCalls.{wanted_at, wanted_of, run_of, gave, lent_right, xi_given, xi_handed, tolerances_right, factors_right, limits_right, first_alm, Answers, Starts, Begins}
 use Rattle.alm_calls.specs.LoopLaws.{phase_code}
@@ -307,7 +303,7 @@ accept_failure (score h y p) c v j e = let z : ◌≡◌ {A = ℕ} 0 1 = cc in a
 accept_failure (begin p) c v j e = let z : ◌≡◌ {A = ℕ} 0 1 = cc in absurd (omega arith)
 accept_failure (stop e') c v j e = let z : ◌≡◌ {A = ℕ} 0 1 = cc in absurd (omega arith)
 
-module _ (s : Alm) (b b' : LoopBoard) (v : List Float) (r : AlmStepped) (a : Reply) where
+module _ (s : Alm) (b b' : LoopBoard) (v : List Float) (r : LoopStep) (a : Reply) where
   pub took_number : (x : Float) → a ≡ Number x → Takes s b (Number x) [] r b' → Takes s b a v r b'
   took_number x e t = subst (λ (z : Reply). Takes s b z v r b') (sym e) (subst (λ (p : M.Loop). Comes s.set p r b') (accept_number (rest s b) x [] v) t)
 
@@ -317,7 +313,7 @@ module _ (s : Alm) (b b' : LoopBoard) (v : List Float) (r : AlmStepped) (a : Rep
   pub took_decision : (t : Bool) → a ≡ decided t → Takes s b (decided t) [] r b' → Takes s b a v r b'
   took_decision t e w = subst (λ (z : Reply). Takes s b z v r b') (sym e) (subst (λ (p : M.Loop). Comes s.set p r b') (accept_decision (rest s b) t [] v) w)
 
-pub took_failure : (s : Alm) (b : LoopBoard) (v : List Float) (r : AlmStepped) (a : Reply) (c : ℕ) → a ≡ Failure c → answer_refusal (wanted_of s) (R.Reply.failure c) (length v) true ≡ 0
+pub took_failure : (s : Alm) (b : LoopBoard) (v : List Float) (r : LoopStep) (a : Reply) (c : ℕ) → a ≡ Failure c → answer_refusal (wanted_of s) (R.Reply.failure c) (length v) true ≡ 0
     → r ≡ stepped (O.Failed c) P.Over s → Takes s b a v r b
 took_failure s b v r a c e q w =
     let k = kind_of_lem (wanted_of s) (R.Reply.failure c) (length v) true q in
@@ -345,7 +341,7 @@ module _ {Q H Q' H' : Type 0} (g : Q → Q') (next : H → Process Q' H') where
   accept_within (begin p) a v j e = let z : ◌≡◌ {A = ℕ} 0 1 = cc in absurd (omega arith)
   accept_within (stop x) a v j e = let z : ◌≡◌ {A = ℕ} 0 1 = cc in absurd (omega arith)
 
-module _ (s : Alm) (b : LoopBoard) (a : Reply) (v : List Float) (r : Stepped) (i : Board) (e : answer_refusal (wanted_of s) (reply_of a) (length v) true ≡ 0) (ph : s.phase ≡ P.Inner) (t : InnerBoard.Takes s.solve b.inner a v r i) where
+module _ (s : Alm) (b : LoopBoard) (a : Reply) (v : List Float) (r : Step) (i : Board) (e : answer_refusal (wanted_of s) (reply_of a) (length v) true ≡ 0) (ph : s.phase ≡ P.Inner) (t : InnerBoard.Takes s.solve b.inner a v r i) where
   inner_sound : Sound s
   inner_sound = accepted_sound s (reply_of a) (length v) true e
 
@@ -356,9 +352,9 @@ module _ (s : Alm) (b : LoopBoard) (a : Reply) (v : List Float) (r : Stepped) (i
   inner_n = ap (λ (z : Settings). z.n) t.settings ∙ counts_n s inner_ready.1
 
   pub inner_ends : EndsWithin r.outcome
-  inner_ends = subst (λ (z : Outcome). EndsWithin z) (sym t.outcome) (answer_short s.solve b.inner (reply_of a) v)
+  inner_ends = subst (λ (z : Says). EndsWithin z) (sym t.outcome) (answer_short s.solve b.inner (reply_of a) v)
 
-  pub inner_takes : (o : AlmStepped) (u y : List Float)
+  pub inner_takes : (o : LoopStep) (u y : List Float)
       → ((c : LoopBoard) → Carries s r (four i.u i.best b.y b.y_plus c) o (four u i.best y b.y_plus c))
       → Takes s b a v o (record { inner = InnerBoard.set_u u i; y = y; y_plus = b.y_plus; w = b.w })
   unfolding resume
@@ -402,7 +398,7 @@ xi_at s c y xs e = by (eqb s.n1 0) (eqb s.n2 0) refl refl xs e
         ap (λ (k : ℕ). c ∷ firsts k y) l ∙ sym (ap (λ (t : Bool). cond (t && eqb s.n2 0) [] (c ∷ firsts s.n1 y)) p)
 
 -- what stands in a lent xi of the length asked
-xi_handed_lem : (s : AlmSettings) (o : AlmOutcome) (y xs : List Float) → length xs ≡ xi_length s.n1 s.n2 → xi_handed o y xs ≡ given_xi (settings_of s) o (firsts s.n1 y) xs
+xi_handed_lem : (s : AlmSettings) (o : LoopSays) (y xs : List Float) → length xs ≡ xi_length s.n1 s.n2 → xi_handed o y xs ≡ given_xi (settings_of s) o (firsts s.n1 y) xs
 unfolding xi_handed given_xi
 xi_handed_lem s (O.Asked q) y xs e = refl
 xi_handed_lem s (O.Ended st) y xs e = xi_at s st.penalty y xs e
@@ -465,7 +461,7 @@ module _ (s : Alm) (b : LoopBoard) (a : Reply) (v us xs : List Float) (m : ℕ) 
   pub answer_xi : m ≡ 0 → length xs ≤ 33
   answer_xi z = omega (arith, (lengths z).1, xi_short s.set.n1 s.set.n2 (sized_n1 s (answer_sized z)))
 
-  pub answer_goes : (b' : LoopBoard) (us' xs' : List Float) (r : AlmStepped) → m ≡ 0 → Takes s b a v r b' → us' ≡ given r.outcome (firsts (length us) b'.inner.u) us → xs' ≡ xi_handed r.outcome b'.y_plus xs
+  pub answer_goes : (b' : LoopBoard) (us' xs' : List Float) (r : LoopStep) → m ≡ 0 → Takes s b a v r b' → us' ≡ given r.outcome (firsts (length us) b'.inner.u) us → xs' ≡ xi_handed r.outcome b'.y_plus xs
       → Answers (run_of s b) a v us us' xs xs' (gave r b')
   answer_goes b' us' xs' r z k w x =
       record {
@@ -618,7 +614,7 @@ module _ (s : AlmSettings) (us : ℕ) (xi : List Float) (e : R.loop_refusal bina
       by (x ∷ xs) true false p q w = omega (arith, w ∙ xi_length_lem s.n1 s.n2 true false p q)
       by (x ∷ xs) false j p q w = omega (arith, w ∙ xi_length_lem s.n1 s.n2 false j p q)
 
-  pub start_runs : (plan : List Float) → length plan ≡ us → (c : Float) (t : Alm) (b : LoopBoard) (r : AlmStepped) → c ≡ R.penalty_in xi → t ≡ first_alm s c (s.max_outer_iterations - 1)
+  pub start_runs : (plan : List Float) → length plan ≡ us → (c : Float) (t : Alm) (b : LoopBoard) (r : LoopStep) → c ≡ R.penalty_in xi → t ≡ first_alm s c (s.max_outer_iterations - 1)
       → firsts (length plan) b.inner.u ≡ plan → firsts (length (R.multipliers_in xi)) b.y ≡ R.multipliers_in xi → firsts (length (R.multipliers_in xi)) b.y_plus ≡ R.multipliers_in xi
       → Comes t.set (L.begins binary64 (set_of t) (next_of t b) (state_of t b)) r b → Begins s plan xi r b
   unfolding R.start_loop R.or_refused L.loop L.first_state
@@ -648,7 +644,7 @@ module _ (s : AlmSettings) (us : ℕ) (xi : List Float) (e : R.loop_refusal bina
           (record { u = u'; c = c'; y = y'; akkt = s.initial_inner_tolerance; y_plus = z'; delta_y = o'; f2 = o'; norm = o'; outer = 0; inner = 0 }))
           r b
 
-pub start_refuses : (s : AlmSettings) (plan xi : List Float) (m : ℕ) (b : LoopBoard) (r : AlmStepped) (t : Alm) (c : Float) → m ≡ R.loop_refusal binary64 (settings_of s) (length plan) xi → (m ≡ 0 → ⊥)
+pub start_refuses : (s : AlmSettings) (plan xi : List Float) (m : ℕ) (b : LoopBoard) (r : LoopStep) (t : Alm) (c : Float) → m ≡ R.loop_refusal binary64 (settings_of s) (length plan) xi → (m ≡ 0 → ⊥)
     → t ≡ first_alm s c 0 → r ≡ stepped (O.Refused m) P.Over t → Begins s plan xi r b
 unfolding R.start_loop R.or_refused said remains
 start_refuses s plan xi m b r t c e z tv w = by m e z (w ∙ ap (stepped (O.Refused m) P.Over) tv)
@@ -659,7 +655,7 @@ start_refuses s plan xi m b r t c e z tv w = by m e z (w ∙ ap (stepped (O.Refu
         let run≡ : R.start_loop binary64 (settings_of s) plan xi ≡ stop (refused (suc k)) = ap (λ (n : ℕ). R.or_refused n (L.loop binary64 (settings_of s) plan (R.penalty_in xi) (R.multipliers_in xi))) (sym i) in
         rw q (record { settings = refl; outcome = sym (ap said run≡); process = rest_over _ b refl ∙ sym (ap remains run≡) })
 
-pub starts : (s : AlmSettings) (us xi : List Float) (r : AlmStepped) (u y z : List Float) → ((b : LoopBoard) → Begins s us xi r (set_u u (set_y y (set_y_plus z b)))) → (b : LoopBoard) → Starts s us xi (gave r (set_u u (set_y y (set_y_plus z b))))
+pub starts : (s : AlmSettings) (us xi : List Float) (r : LoopStep) (u y z : List Float) → ((b : LoopBoard) → Begins s us xi r (set_u u (set_y y (set_y_plus z b)))) → (b : LoopBoard) → Starts s us xi (gave r (set_u u (set_y y (set_y_plus z b))))
 starts s us xi r u y z f b = record { settings = (f b).settings; outcome = (f b).outcome; process = (f b).process }
 
 -- the small part before the first iteration

@@ -13,17 +13,14 @@ use Rattle.panoc_core.specs.Board as Inner
 use Rattle.panoc_core.specs.declared.panoc_cache.Reply.{Reply}
 use Rattle.panoc_core.specs.declared.panoc_cache.ExitStatus.TheVariants.{Converged}
 use Rattle.std.specs.Prelude.{Some}
-use Rattle.alm_core.specs.Values.{settings_of, said, first_point, second_point}
+use Rattle.alm_core.specs.Values.{settings_of, said, first_point, second_point, LoopGave, LoopSays, LoopStep}
 use Rattle.alm_core.specs.Rest.{LoopBoard, rest, sound}
 use Rattle.alm_core.specs.declared.alm_cache.Alm.{Alm}
 use Rattle.alm_core.specs.declared.alm_cache.AlmPhase.{AlmPhase}
 use Rattle.alm_core.specs.declared.alm_cache.AlmPhase.TheVariants as P
 use Rattle.alm_core.specs.declared.alm_cache.AlmSettings.{AlmSettings}
-use Rattle.alm_core.specs.declared.alm_cache.AlmOutcome.{AlmOutcome}
-use Rattle.alm_core.specs.declared.alm_cache.AlmOutcome.TheVariants.{Asked, Ended, Refused, Failed}
-use Rattle.alm_core.specs.declared.alm_cache.AlmStepped.{AlmStepped}
+use Rattle.panoc_core.specs.Told.{Asked, Ended, Refused, Failed}
 use Rattle.alm_core.specs.declared.alm_cache.AlmRun.{AlmRun}
-use Rattle.alm_core.specs.declared.alm_cache.AlmAnswered.{AlmAnswered}
 
 -- ---- what a run waits for, whatever is in its vectors
 abbrev pub wanted_at : Alm → AlmPhase → Option Kind
@@ -67,7 +64,7 @@ run_of s b =
       w_alm_aux = b.w;
     }
 
-abbrev pub gave : AlmStepped → LoopBoard → AlmAnswered
+abbrev pub gave : LoopStep → LoopBoard → LoopGave
 gave r b = record { outcome = r.outcome; run = run_of r.alm b }
 
 abbrev pub rest_of : AlmRun → Loop
@@ -86,7 +83,7 @@ abbrev pub lent_right : AlmSettings → ℕ → ℕ → Bool
 lent_right s us xs = eqb us s.n && eqb xs (xi_length s.n1 s.n2)
 
 -- a call has come to the process p, under the settings s: us, xs and us', xs' are the lent u and xi before and after
-pub record Reaches (s : AlmSettings) (p : Loop) (us us' xs xs' : List Float) (r : AlmAnswered) : Type 0 where
+pub record Reaches (s : AlmSettings) (p : Loop) (us us' xs xs' : List Float) (r : LoopGave) : Type 0 where
   pub settings : r.run.alm.set ≡ s
   pub outcome : r.outcome ≡ said p
   pub process : rest_of r.run ≡ remains p
@@ -98,17 +95,17 @@ abbrev pub refusal : AlmRun → Reply → ℕ → ℕ → ℕ → ℕ
 refusal run a vs us xs = answer_refusal (wanted (rest_of run)) (reply_of a) vs (lent_right run.alm.set us xs)
 
 -- answer: where the table refuses, its number, the run and the lent places unchanged; else what the process comes to
-pub record Answers (run : AlmRun) (a : Reply) (v us us' xs xs' : List Float) (r : AlmAnswered) : Type 0 where
+pub record Answers (run : AlmRun) (a : Reply) (v us us' xs xs' : List Float) (r : LoopGave) : Type 0 where
   pub refused : (k : ℕ) → refusal run a (length v) (length us) (length xs) ≡ suc k → (r.outcome ≡ Refused (suc k)) × (r.run ≡ run) × (us' ≡ us) × (xs' ≡ xs)
   pub accepted : refusal run a (length v) (length us) (length xs) ≡ 0 → Reaches run.alm.set (accept (rest_of run) (reply_of a) v) us us' xs xs' r
 
 -- start: the process that document 01 begins at u and xi, or its refusal
-pub record Starts (s : AlmSettings) (u xi : List Float) (r : AlmAnswered) : Type 0 where
+pub record Starts (s : AlmSettings) (u xi : List Float) (r : LoopGave) : Type 0 where
   pub settings : r.run.alm.set ≡ s
   pub outcome : r.outcome ≡ said (start_loop binary64 (settings_of s) u xi)
   pub process : rest_of r.run ≡ remains (start_loop binary64 (settings_of s) u xi)
 
-pub record Begins (s : AlmSettings) (u xi : List Float) (r : AlmStepped) (b : LoopBoard) : Type 0 where
+pub record Begins (s : AlmSettings) (u xi : List Float) (r : LoopStep) (b : LoopBoard) : Type 0 where
   pub settings : r.alm.set ≡ s
   pub outcome : r.outcome ≡ said (start_loop binary64 (settings_of s) u xi)
   pub process : rest r.alm b ≡ remains (start_loop binary64 (settings_of s) u xi)
@@ -137,7 +134,7 @@ unfoldable pub xi_given : Float → List Float → List Float → List Float
 xi_given c y [] = []
 xi_given c y (x ∷ xs) = c ∷ firsts (length xs) y
 
-unfoldable pub xi_handed : AlmOutcome → List Float → List Float → List Float
+unfoldable pub xi_handed : LoopSays → List Float → List Float → List Float
 xi_handed (Asked q) y xs = xs
 xi_handed (Ended st) y xs = xi_given st.penalty y xs
 xi_handed (Refused k) y xs = xs

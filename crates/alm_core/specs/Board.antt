@@ -8,23 +8,19 @@ use Rattle.model.specs.Process as M
 use Rattle.model.specs.Loop as L
 use Rattle.model.specs.Loop.{xi_of}
 use Rattle.model.specs.Refusals.{accept, remains, lent_after, loop_plan, loop_xi}
-use Rattle.panoc_core.specs.Values.{reply_of, status_of}
+use Rattle.panoc_core.specs.Values.{reply_of, status_of, Says, Step}
 use Rattle.panoc_core.specs.Board.{Board}
 use Rattle.panoc_core.specs.Board as Inner
 use Rattle.panoc_core.specs.declared.panoc_cache.Reply.{Reply}
 use Rattle.panoc_core.specs.declared.panoc_cache.ExitStatus.{ExitStatus}
-use Rattle.panoc_core.specs.declared.panoc_cache.Stepped.{Stepped}
 use Rattle.panoc_core.specs.declared.panoc_cache.SolverStatus.{SolverStatus}
-use Rattle.panoc_core.specs.declared.panoc_cache.Outcome.{Outcome}
-use Rattle.panoc_core.specs.declared.panoc_cache.Outcome.TheVariants as O
+use Rattle.panoc_core.specs.Told as O
 use Rattle.alm_core.specs.declared.alm_cache.AlmOptimizerStatus.{AlmOptimizerStatus}
 use Rattle.alm_core.specs.declared.alm_cache.Alm.{Alm}
 use Rattle.alm_core.specs.declared.alm_cache.AlmPhase.{AlmPhase}
 use Rattle.alm_core.specs.declared.alm_cache.AlmSettings.{AlmSettings}
-use Rattle.alm_core.specs.declared.alm_cache.AlmStepped.{AlmStepped}
-use Rattle.alm_core.specs.declared.alm_cache.AlmOutcome.{AlmOutcome}
-use Rattle.alm_core.specs.declared.alm_cache.AlmOutcome.TheVariants.{Asked, Ended, Refused, Failed}
-use Rattle.alm_core.specs.Values.{settings_of, said}
+use Rattle.panoc_core.specs.Told.{Asked, Ended, Refused, Failed}
+use Rattle.alm_core.specs.Values.{settings_of, said, LoopSays, LoopStep}
 use Rattle.alm_core.specs.Rest.{LoopBoard, rest, sound, sized, counts, next_of, carried_of, found_y}
 
 -- a run that a start made
@@ -44,19 +40,19 @@ Closing s =
     (sized s ≡ true) × (s.left ≤ 999) × (s.outer.0 ≤ 1000 - s.left) × (s.inner.0 ≤ 10000 * s.outer.0) × (s.found.0 ≤ 10000) × (s.solve.set.n ≡ s.set.n)
 
 -- ---- what stands in the lent places after an end; nothing lent is written yet: the plan lies in u, the multipliers in y_plus
-unfoldable pub given : AlmOutcome → List Float → List Float → List Float
+unfoldable pub given : LoopSays → List Float → List Float → List Float
 given (Asked q) u us = us
 given (Ended st) u us = u
 given (Refused k) u us = us
 given (Failed c) u us = us
 
-unfoldable pub given_xi : L.LoopSettings → AlmOutcome → List Float → List Float → List Float
+unfoldable pub given_xi : L.LoopSettings → LoopSays → List Float → List Float → List Float
 given_xi s (Asked q) y xs = xs
 given_xi s (Ended st) y xs = xi_of s st.penalty y
 given_xi s (Refused k) y xs = xs
 given_xi s (Failed c) y xs = xs
 
-pub record Comes (s : AlmSettings) (p : M.Loop) (r : AlmStepped) (b : LoopBoard) : Type 0 where
+pub record Comes (s : AlmSettings) (p : M.Loop) (r : LoopStep) (b : LoopBoard) : Type 0 where
   pub settings : r.alm.set ≡ s
   pub outcome : r.outcome ≡ said p
   pub process : rest r.alm b ≡ remains p
@@ -64,7 +60,7 @@ pub record Comes (s : AlmSettings) (p : M.Loop) (r : AlmStepped) (b : LoopBoard)
   pub xi : (xs : List Float) → lent_after (loop_xi (settings_of s)) p xs ≡ given_xi (settings_of s) r.outcome (firsts s.n1 b.y_plus) xs
 
 -- an answer that nothing refuses
-abbrev pub Takes : Alm → LoopBoard → Reply → List Float → AlmStepped → LoopBoard → Type 0
+abbrev pub Takes : Alm → LoopBoard → Reply → List Float → LoopStep → LoopBoard → Type 0
 Takes s b a v r b' = Comes s.set (accept (rest s b) (reply_of a) v) r b'
 
 -- ---- the small part with some of it replaced
@@ -74,7 +70,7 @@ at_phase p s = record { phase = p; set = s.set; numbers = s.numbers; left = s.le
 abbrev pub with_status : ExitStatus → Alm → Alm
 with_status e s = record { phase = s.phase; set = s.set; numbers = s.numbers; left = s.left; outer = s.outer; inner = s.inner; found = s.found; status = e; solve = s.solve }
 
-abbrev pub stepped : AlmOutcome → AlmPhase → Alm → AlmStepped
+abbrev pub stepped : LoopSays → AlmPhase → Alm → LoopStep
 stepped o p s = record { outcome = o; alm = at_phase p s }
 
 -- ---- the board with some of its vectors replaced
@@ -157,14 +153,14 @@ abbrev pub handed_as : SolverStatus → List Float → M.Handed
 handed_as st plan = record { plan = plan; status = status_of st.exit_status; iterations = st.iterations.0; norm = st.norm_fpr; cost = st.cost_value }
 
 -- its iterations are at most 10,000
-abbrev pub EndsWithin : Outcome → Type 0
+abbrev pub EndsWithin : Says → Type 0
 EndsWithin (O.Asked q) = Unit {0}
 EndsWithin (O.Ended st) = st.iterations.0 ≤ 10000
 EndsWithin (O.Refused k) = Unit {0}
 EndsWithin (O.Failed c) = Unit {0}
 
 -- whatever process p the inner solve has come to, the loop has come to p within it
-abbrev pub Carries : Alm → Stepped → LoopBoard → AlmStepped → LoopBoard → Type 0
+abbrev pub Carries : Alm → Step → LoopBoard → LoopStep → LoopBoard → Type 0
 Carries s r b o b' =
     (p : M.Solve) → Inner.Comes s.solve.set p r b.inner
     → Comes s.set (M.within (M.LoopQuestion.inner (xi_of (settings_of s.set) s.numbers.penalty (firsts s.set.n1 b.y))) (L.solved binary64 (settings_of s.set) (next_of s b) (carried_of s b)) p) o b'

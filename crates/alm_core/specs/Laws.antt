@@ -21,7 +21,7 @@ use Rattle.model.specs.Inner as I
 use Rattle.model.specs.Loop as L
 use Rattle.model.specs.Loop.{LoopSettings, LoopState, Found, xi_of, with_multipliers, with_f2}
 use Rattle.model.specs.Refusals.{accept, replied, go_on, as_number, as_vector, as_decision, remains, lent_after, lent_at, loop_plan, loop_xi, plan_of}
-use Rattle.panoc_core.specs.Values.{status_of, exit_status_of, decided, question_of}
+use Rattle.panoc_core.specs.Values.{status_of, exit_status_of, decided, question_of, Step}
 use Rattle.panoc_core.specs.Values as InnerValues
 use Rattle.panoc_core.specs.Board as InnerBoard
 use Rattle.panoc_core.specs.Laws.{and_left, and_right, taken, status_there, status_back}
@@ -32,19 +32,17 @@ use Rattle.panoc_core.specs.declared.panoc_cache.Reply.TheVariants.{Number, Vect
 use Rattle.panoc_core.specs.declared.panoc_cache.Settings.{Settings}
 use Rattle.std.specs.Prelude.{Some}
 use Rattle.panoc_core.specs.declared.panoc_cache.Question.TheVariants as IQ
-use Rattle.panoc_core.specs.declared.panoc_cache.Outcome.TheVariants as IO
+use Rattle.panoc_core.specs.Told as IO
 use Rattle.panoc_core.specs.declared.panoc_cache.SolverStatus.{SolverStatus}
 use Rattle.panoc_core.specs.declared.panoc_cache.Solve.{Solve}
-use Rattle.panoc_core.specs.declared.panoc_cache.Stepped.{Stepped}
 use Rattle.alm_core.specs.declared.alm_cache.Alm.{Alm}
 use Rattle.alm_core.specs.declared.alm_cache.AlmPhase.{AlmPhase}
 use Rattle.alm_core.specs.declared.alm_cache.AlmPhase.TheVariants as P
 use Rattle.alm_core.specs.declared.alm_cache.AlmQuestion.TheVariants as Q
-use Rattle.alm_core.specs.declared.alm_cache.AlmOutcome.TheVariants as O
+use Rattle.panoc_core.specs.Told as O
 use Rattle.alm_core.specs.declared.alm_cache.AlmSettings.{AlmSettings}
-use Rattle.alm_core.specs.declared.alm_cache.AlmStepped.{AlmStepped}
 use Rattle.alm_core.specs.declared.alm_cache.AlmOptimizerStatus.{AlmOptimizerStatus}
-use Rattle.alm_core.specs.Values.{loop_question, said, ended}
+use Rattle.alm_core.specs.Values.{loop_question, said, ended, LoopStep}
 use Rattle.alm_core.specs.Rest.{LoopBoard, rest, resume, sized, counts, sound, is_last, next_of, state_of, carried_of, found_of, found_y, y_of, y_plus_of, w_of, u_of}
 use Rattle.alm_core.specs.Board.{Ready, Closing, Sound, Comes, Takes, Carries, given, given_xi, set_of, stepped, at_phase, with_status, set_y, set_y_plus, set_w, set_u, set_plus, four, five, six, found_all, settled_y, settled_f2, counted_with, status_at, handed_as}
 
@@ -120,7 +118,7 @@ rest_over s b e = by (sound s) (ap (resume s b) e)
     by false q = refl
 
 -- ---- a question, a refusal that ends the run, a failure
-module _ (t : Alm) (b : LoopBoard) (r : AlmStepped) where
+module _ (t : Alm) (b : LoopBoard) (r : LoopStep) where
   pub asks_comes : (p : AlmPhase) (q : M.LoopQuestion) (k : Kind) (continue : Answer k → M.Loop) → Sound (at_phase p t) → r ≡ stepped (O.Asked (loop_question q)) p t
       → resume (at_phase p t) b p ≡ ask q k continue → Comes t.set (ask q k continue) r b
   unfolding said remains lent_after given given_xi
@@ -139,11 +137,11 @@ pub phase_ready : (s : Alm) (p : AlmPhase) → Ready s → Sound (at_phase p s)
 unfolding sized counts
 phase_ready s p h = ready_sound (at_phase p s) h
 
-pub comes_as : (s : AlmSettings) {p q : M.Loop} (r : AlmStepped) (b : LoopBoard) → q ≡ p → Comes s p r b → Comes s q r b
+pub comes_as : (s : AlmSettings) {p q : M.Loop} (r : LoopStep) (b : LoopBoard) → q ≡ p → Comes s p r b → Comes s q r b
 comes_as s {p} {q} r b e c = subst (λ (z : M.Loop). Comes s z r b) (sym e) c
 
 -- ---- an answer of the kind asked
-module _ (s : Alm) (b b' : LoopBoard) (r : AlmStepped) (h : Sound s) (p : AlmPhase) (e : s.phase ≡ p) (q : M.LoopQuestion) where
+module _ (s : Alm) (b b' : LoopBoard) (r : LoopStep) (h : Sound s) (p : AlmPhase) (e : s.phase ≡ p) (q : M.LoopQuestion) where
   pub takes_number : (continue : Float → M.Loop) (x : Float) → resume s b p ≡ ask q Kind.number continue → Comes s.set (continue x) r b' → Takes s b (Number x) [] r b'
   unfolding accept replied go_on as_number
   takes_number continue x w c = rw (rest_at s b p h e, w) c
@@ -201,7 +199,7 @@ module _ (w : LoopSettings) (next : M.Status → LoopState → M.Loop) where
   weighed_goes r q = rw q
 
 -- ---- the end, and the beginning of an iteration
-module _ (s : Alm) (b : LoopBoard) (r : AlmStepped) where
+module _ (s : Alm) (b : LoopBoard) (r : LoopStep) where
   pub conclude_goes : (e : ExitStatus) (t : Alm) → sized s ≡ true → t ≡ with_status e s → r ≡ stepped (O.Asked Q.Cost) P.LastCost t → Comes s.set (L.conclude binary64 (set_of s) (status_of e) (state_of s b)) r b
   unfolding L.conclude resume sized
   conclude_goes e t h tv w =
@@ -254,7 +252,7 @@ pub next_ready : (s : Alm) (l : ℕ) → Closing s → s.left ≡ suc l → Read
 unfolding sized
 next_ready s l h z = (h.0, counts_made (with_left l s) (omega (arith, h.1)) (omega (arith, h.1, h.2)) h.3 h.4 h.5)
 
-module _ (s : Alm) (b : LoopBoard) (r : AlmStepped) (e : ExitStatus) where
+module _ (s : Alm) (b : LoopBoard) (r : LoopStep) (e : ExitStatus) where
   pub next_none : s.left ≡ 0 → Comes s.set (L.conclude binary64 (set_of s) M.not_converged_iterations (state_of s b)) r b → Comes s.set (L.iterations binary64 (set_of s) s.left (status_of e) (state_of s b)) r b
   unfolding L.iterations
   next_none z c = subst (λ (l : ℕ). Comes s.set (L.iterations binary64 (set_of s) l (status_of e) (state_of s b)) r b) (sym z) c
@@ -418,7 +416,7 @@ unfolding sized
 counted_closing s c t h =
     (h.0, counts_left s h.1, omega (arith, counts_left s h.1, counts_outer s h.1), omega (arith, counts_inner s h.1, counts_found s h.1), counts_found s h.1, counts_n s h.1)
 
-module _ (s : Alm) (b : LoopBoard) (r : AlmStepped) (u : List Float) (uv : firsts s.set.n u ≡ firsts s.set.n b.inner.best) where
+module _ (s : Alm) (b : LoopBoard) (r : LoopStep) (u : List Float) (uv : firsts s.set.n u ≡ firsts s.set.n b.inner.best) where
   pub weigh_ends : (d : Bool) (t : Alm) → d ≡ L.exits binary64 (set_of s) (found_all s b) → d ≡ true → t ≡ counted_with s.numbers.penalty s.numbers.akkt_tolerance s
       → ((c : LoopBoard) → Comes t.set (L.conclude binary64 (set_of t) (status_of s.status) (state_of t c)) r c)
       → Comes s.set (L.weighed binary64 (set_of s) (next_of s b) (found_all s b)) r (set_u u b)
@@ -473,7 +471,7 @@ firsts_none : (n : ℕ) (a c : List Float) → n ≡ 0 → firsts n a ≡ firsts
 unfolding firsts
 firsts_none n a c e = ap (λ (k : ℕ). firsts k a) e ∙ sym (ap (λ (k : ℕ). firsts k c) e)
 
-module _ (s : Alm) (b b' : LoopBoard) (r : AlmStepped) where
+module _ (s : Alm) (b b' : LoopBoard) (r : LoopStep) where
   pub f2_skips : s.set.n2 ≡ 0 → Comes s.set (L.weighed binary64 (set_of s) (next_of s b) (found_all (with_norm (of_bits binary64 0) s) b)) r b' → Comes s.set (L.ask_f2 binary64 (set_of s) (next_of s b) (found_y s b)) r b'
   f2_skips q c =
       comes_as s.set r b' (f2_none (set_of s) (next_of s b) (found_y s b) q)
@@ -485,7 +483,7 @@ module _ (s : Alm) (b b' : LoopBoard) (r : AlmStepped) where
       (subst (λ (z : List Float). Comes s.set (L.ask_f2 binary64 (set_of s) (next_of s b) (with_multipliers z null (found_of s b))) r b') (firsts_none s.set.n1 b.y_plus b.y q)
       (subst (λ (z : Float). Comes s.set (L.ask_f2 binary64 (set_of s) (next_of s b) (with_multipliers (y_plus_of s b) z (found_of s b))) r b') (zero_bits binary64) c))
 
-module _ (s : Alm) (b : LoopBoard) (r : AlmStepped) (h : Ready s) where
+module _ (s : Alm) (b : LoopBoard) (r : LoopStep) (h : Ready s) where
   pub f2_asks : (u y : List Float) → (s.set.n2 ≡ 0 → ⊥) → r ≡ stepped (O.Asked Q.F2) P.F2 s → Comes s.set (L.ask_f2 binary64 (set_of s) (next_of s b) (found_y s b)) r b
   unfolding resume
   f2_asks u y q e = comes_as s.set r b (f2_some (set_of s) (next_of s b) (found_y s b) q) (asks_comes s b r P.F2 (M.LoopQuestion.f2 (firsts s.set.n b.inner.best)) _ _ (phase_ready s P.F2 h) e refl)
@@ -575,7 +573,7 @@ nan_not nan e = absurd (omega (arith, ap {B = ℕ} (λ (c : Bool). cond c 1 0) e
 nan_not (inf s) e = refl
 nan_not (fin s m k) e = refl
 
-module _ (s : Alm) (b : LoopBoard) (r : AlmStepped) (h : sized s ≡ true) (ph : s.phase ≡ P.LastCost) (x : Float) where
+module _ (s : Alm) (b : LoopBoard) (r : LoopStep) (h : sized s ≡ true) (ph : s.phase ≡ P.LastCost) (x : Float) where
   pub last_delta : is_nan s.numbers.delta_y_norm ≡ true → r ≡ stepped (O.Refused 18) P.Over s → Takes s b (Number x) [] r b
   unfolding resume L.concluded
   last_delta q e = takes_number s b b r (last_sound s h ph) P.LastCost ph _ _ x refl (rw q (stops_comes s b r 18 e))
@@ -677,13 +675,13 @@ solved_ready s w st t h e l tv =
     subst (λ (z : Alm). Ready z) (sym tv)
     (h.0, counts_made (solved_as w st s) (counts_left s h.1) (counts_outer s h.1) (counts_inner s h.1) l e)
 
-pub solved_goes : (s : Alm) (b b' : LoopBoard) (w : Solve) (st : SolverStatus) (t : Alm) (r : AlmStepped) → t ≡ solved_as w st s
+pub solved_goes : (s : Alm) (b b' : LoopBoard) (w : Solve) (st : SolverStatus) (t : Alm) (r : LoopStep) → t ≡ solved_as w st s
     → Comes t.set (L.ask_f1 binary64 (set_of t) (next_of t b) (found_of t b)) r b'
     → Comes s.set (L.solved binary64 (set_of s) (next_of s b) (carried_of s b) (handed_as st (firsts s.set.n b.inner.best))) r b'
 unfolding L.solved
 solved_goes s b b' w st t r tv c = subst (λ (z : Alm). Comes z.set (L.ask_f1 binary64 (set_of z) (next_of z b) (found_of z b)) r b') tv c
 
-module _ (s : Alm) (b : LoopBoard) (r : Stepped) (o : AlmStepped) (h : Ready s) (n≡ : r.solve.set.n ≡ s.set.n) where
+module _ (s : Alm) (b : LoopBoard) (r : Step) (o : LoopStep) (h : Ready s) (n≡ : r.solve.set.n ≡ s.set.n) where
   abbrev xis : List Float
   xis = xi_of (set_of s) s.numbers.penalty (y_of s b)
 
@@ -750,12 +748,12 @@ pub closing_same : (t t' : Alm) → t ≡ t' → Closing t' → Closing t
 closing_same t t' e h = subst (λ (z : Alm). Closing z) (sym e) h
 
 -- for every board that is not lent
-pub f2_every : (s : Alm) (b : LoopBoard) (r : AlmStepped) → Ready s → (v p u y : List Float) (x : Float) → s.phase ≡ P.F2 → length v ≡ s.set.n2 → firsts (length v) p ≡ v → x ≡ norm binary64 (firsts s.set.n2 p)
+pub f2_every : (s : Alm) (b : LoopBoard) (r : LoopStep) → Ready s → (v p u y : List Float) (x : Float) → s.phase ≡ P.F2 → length v ≡ s.set.n2 → firsts (length v) p ≡ v → x ≡ norm binary64 (firsts s.set.n2 p)
     → ((c : LoopBoard) → Comes s.set (L.weighed binary64 (set_of s) (next_of s c) (found_all (with_norm x s) (four b.inner.u b.inner.best b.y b.y_plus c))) r (four u b.inner.best y b.y_plus c))
     → Takes s b Vector v r (five u p b.inner.best y b.y_plus b)
 f2_every s b r h v p u y x ph l pv xv c = f2_goes s b r h v p x (five u p b.inner.best y b.y_plus b) ph l pv xv (c (set_plus p b))
 
-pub c_every : (s : Alm) (b : LoopBoard) (r : AlmStepped) → Ready s → (v p z u y : List Float) (x : Float) → s.phase ≡ P.ProjectC → length v ≡ s.set.n1 → firsts (length v) p ≡ v
+pub c_every : (s : Alm) (b : LoopBoard) (r : LoopStep) → Ready s → (v p z u y : List Float) (x : Float) → s.phase ≡ P.ProjectC → length v ≡ s.set.n1 → firsts (length v) p ≡ v
     → firsts s.set.n1 z ≡ plus_times binary64 s.numbers.penalty (firsts s.set.n1 b.y) (minus binary64 (firsts s.set.n1 b.w) (firsts s.set.n1 p))
     → x ≡ norm binary64 (minus binary64 (firsts s.set.n1 z) (firsts s.set.n1 b.y))
     → ((c : LoopBoard) → Comes s.set (L.ask_f2 binary64 (set_of s) (next_of s c) (found_y (with_delta x s) (four b.inner.u b.inner.best b.y z c))) r (four u b.inner.best y z c))

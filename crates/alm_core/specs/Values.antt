@@ -1,6 +1,6 @@
 -- What the loop's enums and records stand for in document 01's terms. Definitions only.
 use Rattle.std.specs.Prelude.{List, [], Float}
-use Rattle.model.specs.Process.{End, handed, refused, failed, ask, score, begin, stop, LoopHanded}
+use Rattle.model.specs.Process.{LoopHanded}
 use Rattle.model.specs.Process as M
 use Rattle.model.specs.Loop.{LoopSettings}
 use Rattle.panoc_core.specs.Values.{exit_status_of, question_of}
@@ -8,8 +8,13 @@ use Rattle.panoc_core.specs.Values as Inner
 use Rattle.alm_core.specs.declared.alm_cache.AlmSettings.{AlmSettings}
 use Rattle.alm_core.specs.declared.alm_cache.AlmQuestion.{AlmQuestion}
 use Rattle.alm_core.specs.declared.alm_cache.AlmQuestion.TheVariants as Q
-use Rattle.alm_core.specs.declared.alm_cache.AlmOutcome.{AlmOutcome}
-use Rattle.alm_core.specs.declared.alm_cache.AlmOutcome.TheVariants.{Asked, Ended, Refused, Failed}
+use Rattle.panoc_core.specs.declared.outcome.Stepped.{Stepped}
+use Rattle.panoc_core.specs.declared.outcome.Answered.{Answered}
+use Rattle.panoc_core.specs.Told.{Told}
+use Rattle.panoc_core.specs.Told as Tells
+use Rattle.alm_core.specs.declared.alm_cache.Alm.{Alm}
+use Rattle.alm_core.specs.declared.alm_cache.AlmRun.{AlmRun}
+use Rattle.alm_core.specs.declared.alm_cache.AlmOptimizerStatus.{AlmOptimizerStatus}
 
 -- the settings of a start
 abbrev pub settings_of : AlmSettings → LoopSettings
@@ -67,11 +72,10 @@ second_point (M.LoopQuestion.project_c t) = []
 second_point (M.LoopQuestion.f2 u) = []
 second_point (M.LoopQuestion.cost u xi) = xi
 
--- an end: what is handed back with the plan and the multipliers, a refusal's number, a failure's code
-abbrev pub ended : End LoopHanded → AlmOutcome
-ended (handed h) =
-    Ended
-    (record {
+-- what an end says: what is handed back with the plan and the multipliers
+abbrev pub end_said : LoopHanded → AlmOptimizerStatus
+end_said h =
+    record {
       exit_status = exit_status_of h.status;
       num_outer_iterations = record { 0 = h.outer };
       num_inner_iterations = record { 0 = h.inner };
@@ -80,13 +84,19 @@ ended (handed h) =
       f2_norm = h.f2;
       penalty = h.penalty;
       cost = h.cost;
-    })
-ended (refused k) = Refused k
-ended (failed c) = Failed c
+    }
+
+-- ---- what the calls of a loop tell, alone, with the small part, and with the run
+
+abbrev pub LoopSays : Type 0
+LoopSays = Told AlmQuestion AlmOptimizerStatus
+
+abbrev pub LoopStep : Type 0
+LoopStep = Stepped LoopSays Alm
+
+abbrev pub LoopGave : Type 0
+LoopGave = Answered LoopSays AlmRun
 
 -- what a call says of the process that it has come to
-unfoldable pub said : M.Loop → AlmOutcome
-said (ask q k continue) = Asked (loop_question q)
-said (score half norm p) = said p
-said (begin p) = said p
-said (stop e) = ended e
+abbrev pub said : M.Loop → LoopSays
+said = Tells.said loop_question end_said

@@ -1,4 +1,5 @@
 // The records of the multiplier loop: what it is given, where it stands, its vectors.
+use panoc_core::outcome::{Answered, Outcome, Stepped};
 use panoc_core::panoc_cache::{ExitStatus, InnerIterations, Question, Solve};
 
 // A count of outer iterations; an inner count is another type.
@@ -77,13 +78,7 @@ pub struct AlmOptimizerStatus {
 }
 
 // What a call gives.
-#[derive(Clone, Copy, Debug, PartialEq)]
-pub enum AlmOutcome {
-    Asked(AlmQuestion),
-    Ended(AlmOptimizerStatus),
-    Refused(u32),
-    Failed(u32),
-}
+pub type AlmOutcome = Outcome<AlmQuestion, AlmOptimizerStatus>;
 
 // The small part of a run. left: how many outer iterations may still begin; outer, inner: the counts; found: the iterations of the last
 // solve; status: its end, or the end that is handed back.
@@ -100,12 +95,8 @@ pub struct Alm {
     pub solve: Solve,
 }
 
-// What a call in place gives: the vectors are where they were lent.
-#[derive(Clone, Copy, Debug, PartialEq)]
-pub struct AlmStepped {
-    pub outcome: AlmOutcome,
-    pub alm: Alm,
-}
+// What a call in place gives, with the small part.
+pub type AlmStepped = Stepped<AlmOutcome, Alm>;
 
 // A run by value: the small part, the vectors of the inner solve, and y, y_plus and F1.
 #[derive(Clone, Copy)]
@@ -125,8 +116,5 @@ pub struct AlmRun {
     pub w_alm_aux: [f64; 64],
 }
 
-#[derive(Drop)]
-pub struct AlmAnswered {
-    pub outcome: AlmOutcome,
-    pub run: AlmRun,
-}
+// What a call by value gives, with the run.
+pub type AlmAnswered = Answered<AlmOutcome, AlmRun>;

@@ -5,10 +5,9 @@ use Rattle.image.specs.Image.{flag_of, status_of, solve_of}
 use Rattle.alm_core.specs.declared.alm_cache.Alm.{Alm}
 use Rattle.alm_core.specs.declared.alm_cache.AlmNumbers.{AlmNumbers}
 use Rattle.alm_core.specs.declared.alm_cache.AlmOptimizerStatus.{AlmOptimizerStatus}
-use Rattle.alm_core.specs.declared.alm_cache.AlmOutcome.{AlmOutcome}
-use Rattle.alm_core.specs.declared.alm_cache.AlmOutcome.TheVariants.{Asked, Ended, Refused, Failed}
+use Rattle.panoc_core.specs.Told.{Asked, Ended, Refused, Failed}
 use Rattle.alm_core.specs.declared.alm_cache.AlmSettings.{AlmSettings}
-use Rattle.alm_core.specs.declared.alm_cache.AlmStepped.{AlmStepped}
+use Rattle.alm_core.specs.Values.{LoopSays, LoopStep}
 pub use Rattle.alm_kinds.specs.AlmKinds.{phase_of, phase_number, question_of, question_number}
 
 -- ---- the small part of a loop: lw, lk and lf are the lent numbers besides
@@ -77,14 +76,14 @@ status_at w k f lk lf =
       cost = get_or f 12 nan;
     }
 
-abbrev pub outcome_of : ℕ → List ℕ → List ℕ → List Float → List ℕ → List Float → AlmOutcome
+abbrev pub outcome_of : ℕ → List ℕ → List ℕ → List Float → List ℕ → List Float → LoopSays
 outcome_of r w k f lk lf = get_or (Asked (question_of (get_or w 1 0)) ∷ Ended (status_at w k f lk lf) ∷ Refused (get_or w 1 0) ∷ []) r (Failed (get_or w 1 0))
 
-abbrev pub step_of : ℕ → List ℕ → List ℕ → List Float → List ℕ → List ℕ → List Float → AlmStepped
+abbrev pub step_of : ℕ → List ℕ → List ℕ → List Float → List ℕ → List ℕ → List Float → LoopStep
 step_of r w k f lw lk lf = record { outcome = outcome_of r w k f lk lf; alm = alm_of w k f lw lk lf }
 
 -- whatever lw is, the small part stays, and o is told
-abbrev pub Tells : AlmOutcome → ℕ → List ℕ → List ℕ → List Float → List ℕ → List Float → List ℕ → List ℕ → List Float → List ℕ → List Float → Type 0
+abbrev pub Tells : LoopSays → ℕ → List ℕ → List ℕ → List Float → List ℕ → List Float → List ℕ → List ℕ → List Float → List ℕ → List Float → Type 0
 Tells o r w k f lk lf w' k' f' lk' lf' = ((lw : List ℕ) → alm_of w' k' f' lw lk' lf' ≡ alm_of w k f lw lk lf) × (outcome_of r w' k' f' lk' lf' ≡ o)
 
 -- ---- the lent numbers with some of them replaced

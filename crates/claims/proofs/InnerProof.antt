@@ -17,11 +17,9 @@ use Rattle.model.proofs.Starts.{start_inner_ends}
 use Rattle.model.proofs.EverySolve.{solve_traced}
 use Rattle.panoc_core.specs.declared.panoc_cache.Settings.{Settings}
 use Rattle.panoc_core.specs.declared.panoc_cache.SolverStatus.{SolverStatus}
-use Rattle.panoc_core.specs.declared.panoc_cache.Outcome.TheVariants.{Ended, Refused}
+use Rattle.panoc_core.specs.Told.{Ended, Refused}
 use Rattle.panoc_core.specs.declared.panoc_cache.Run.{Run}
-use Rattle.panoc_core.specs.declared.panoc_cache.Stepped.{Stepped}
-use Rattle.panoc_core.specs.declared.panoc_cache.Answered.{Answered}
-use Rattle.panoc_core.specs.Values.{settings_of, said, exit_status_of}
+use Rattle.panoc_core.specs.Values.{settings_of, said, exit_status_of, Gave, Step}
 use Rattle.panoc_core.specs.Board.{Board, run_of, gave, Begins}
 use Rattle.panoc_core.specs.Calls.{Starts, asking}
 use Rattle.claims.specs.History.{Call, History}
@@ -79,7 +77,7 @@ hands_is s es h e u p o w = subst (λ (v : List Float). InnerHands s es e v) (sy
     same : record { exit_status = exit_status_of h.status; iterations = record { 0 = h.iterations }; norm_fpr = h.norm; cost_value = h.cost } ≡ e
     same = cc
 
-module _ (s : Settings) (u : List Float) (a : Answered) (starts : Starts s u a) (accepts : number_of a.outcome ≡ 0) where
+module _ (s : Settings) (u : List Float) (a : Gave) (starts : Starts s u a) (accepts : number_of a.outcome ≡ 0) where
   same_start : start_inner binary64 (settings_of s) u ≡ solve_of s u
   unfolding start_inner
   same_start = begins inner_runs lawful s _ (solve_of s u) a.outcome starts.outcome accepts
@@ -123,12 +121,12 @@ module _ (s : Settings) (u : List Float) (a : Answered) (starts : Starts s u a) 
       }
 
 -- The same from an accepted start in place, whose vectors are those of the board b.
-pub inner_claim_in_place : (s : Settings) (u : List Float) (a : Stepped) (b : Board) → Begins s u a b → number_of a.outcome ≡ 0
+pub inner_claim_in_place : (s : Settings) (u : List Float) (a : Step) (b : Board) → Begins s u a b → number_of a.outcome ≡ 0
     → {cs : List (Call inner_runs)} {t : Run} → History inner_runs (run_of a.solve b) cs t → InnerClaim s u (run_of a.solve b) cs t
 inner_claim_in_place s u a b starts accepts h =
     inner_claim s u (gave a b) (record { settings = starts.settings; outcome = starts.outcome; process = starts.process }) accepts h
 
 -- A start that the table refuses: its number, and no run.
-pub inner_no_run : (s : Settings) (u : List Float) (a : Answered) → Starts s u a → (m : ℕ) → inner_refusal (settings_of s) (length u) ≡ suc m → (a.outcome ≡ Refused (suc m)) × Over inner_runs a.run
+pub inner_no_run : (s : Settings) (u : List Float) (a : Gave) → Starts s u a → (m : ℕ) → inner_refusal (settings_of s) (length u) ≡ suc m → (a.outcome ≡ Refused (suc m)) × Over inner_runs a.run
 unfolding start_inner said
 inner_no_run s u a starts m e = no_run inner_runs lawful _ m (solve_of s u) a.outcome a.run starts.outcome starts.process e

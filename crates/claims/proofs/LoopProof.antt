@@ -20,11 +20,9 @@ use Rattle.model.proofs.Starts.{start_loop_ends}
 use Rattle.model.proofs.EveryLoop.{loop_traced, loop_counted}
 use Rattle.alm_core.specs.declared.alm_cache.AlmSettings.{AlmSettings}
 use Rattle.alm_core.specs.declared.alm_cache.AlmOptimizerStatus.{AlmOptimizerStatus}
-use Rattle.alm_core.specs.declared.alm_cache.AlmOutcome.TheVariants.{Ended, Refused}
+use Rattle.panoc_core.specs.Told.{Ended, Refused}
 use Rattle.alm_core.specs.declared.alm_cache.AlmRun.{AlmRun}
-use Rattle.alm_core.specs.declared.alm_cache.AlmStepped.{AlmStepped}
-use Rattle.alm_core.specs.declared.alm_cache.AlmAnswered.{AlmAnswered}
-use Rattle.alm_core.specs.Values.{settings_of, said}
+use Rattle.alm_core.specs.Values.{settings_of, said, LoopGave, LoopStep}
 use Rattle.alm_core.specs.Rest.{LoopBoard}
 use Rattle.alm_calls.specs.LoopCalls.{run_of, gave, Starts, Begins, asking}
 use Rattle.claims.specs.History.{Call, History}
@@ -107,7 +105,7 @@ lawful =
       hands = λ h. refl;
     }
 
-module _ (s : AlmSettings) (u xi : List Float) (a : AlmAnswered) (starts : Starts s u xi a) (accepts : number_of a.outcome ≡ 0) where
+module _ (s : AlmSettings) (u xi : List Float) (a : LoopGave) (starts : Starts s u xi a) (accepts : number_of a.outcome ≡ 0) where
   abbrev p : M.Loop
   p = loop_of s u xi
 
@@ -148,12 +146,12 @@ module _ (s : AlmSettings) (u xi : List Float) (a : AlmAnswered) (starts : Start
       }
 
 -- The same from an accepted start in place, whose vectors are those of the board b.
-pub loop_claim_in_place : (s : AlmSettings) (u xi : List Float) (a : AlmStepped) (b : LoopBoard) → Begins s u xi a b → number_of a.outcome ≡ 0
+pub loop_claim_in_place : (s : AlmSettings) (u xi : List Float) (a : LoopStep) (b : LoopBoard) → Begins s u xi a b → number_of a.outcome ≡ 0
     → {cs : List (Call loop_runs)} {t : AlmRun} → History loop_runs (run_of a.alm b) cs t → LoopClaim s u xi (run_of a.alm b) cs t
 loop_claim_in_place s u xi a b starts accepts h =
     loop_claim s u xi (gave a b) (record { settings = starts.settings; outcome = starts.outcome; process = starts.process }) accepts h
 
 -- A start that the table refuses: its number, and no run.
-pub loop_no_run : (s : AlmSettings) (u xi : List Float) (a : AlmAnswered) → Starts s u xi a → (m : ℕ) → loop_refusal binary64 (settings_of s) (length u) xi ≡ suc m → (a.outcome ≡ Refused (suc m)) × Over loop_runs a.run
+pub loop_no_run : (s : AlmSettings) (u xi : List Float) (a : LoopGave) → Starts s u xi a → (m : ℕ) → loop_refusal binary64 (settings_of s) (length u) xi ≡ suc m → (a.outcome ≡ Refused (suc m)) × Over loop_runs a.run
 unfolding start_loop said
 loop_no_run s u xi a starts m e = no_run loop_runs lawful _ m (loop_of s u xi) a.outcome a.run starts.outcome starts.process e

@@ -13,10 +13,9 @@ use Rattle.model.specs.Least.{Scored}
 use Rattle.panoc_core.specs.declared.panoc_cache.Settings.{Settings}
 use Rattle.panoc_core.specs.declared.panoc_cache.ExitStatus.TheVariants.{Converged}
 use Rattle.panoc_core.specs.declared.panoc_cache.SolverStatus.{SolverStatus}
-use Rattle.panoc_core.specs.declared.panoc_cache.Outcome.{Outcome}
-use Rattle.panoc_core.specs.declared.panoc_cache.Outcome.TheVariants.{Asked, Ended, Refused, Failed}
+use Rattle.panoc_core.specs.Told.{Asked, Ended, Refused, Failed}
 use Rattle.panoc_core.specs.declared.panoc_cache.Run.{Run}
-use Rattle.panoc_core.specs.Values.{settings_of, said, first_point, second_point}
+use Rattle.panoc_core.specs.Values.{settings_of, said, first_point, second_point, Says}
 use Rattle.panoc_core.specs.Rest.{rest}
 use Rattle.panoc_core.specs.Calls.{Answers, asking, Points}
 use Rattle.claims.specs.History.{Runs, Call}
@@ -24,13 +23,13 @@ use Rattle.claims.specs.Trace.{left, Event, trace, weighed}
 use Rattle.claims.specs.Claim.{Each, Follows, ScoresRight, scores, Plan}
 
 -- an outcome: whether a plan is handed back, and the number of a refusal
-abbrev pub hands_plan : Outcome → Bool
+abbrev pub hands_plan : Says → Bool
 hands_plan (Asked q) = false
 hands_plan (Ended e) = true
 hands_plan (Refused m) = false
 hands_plan (Failed c) = false
 
-abbrev pub number_of : Outcome → ℕ
+abbrev pub number_of : Says → ℕ
 number_of (Asked q) = 0
 number_of (Ended e) = 0
 number_of (Refused m) = m
@@ -43,7 +42,7 @@ inner_runs =
       Run = Run;
       Settings = Settings;
       Lent = List Float;
-      Outcome = Outcome;
+      Outcome = Says;
       Answers = λ run a v us ws o r. Answers run a v us ws (record { outcome = o; run = r });
       settings = λ run. run.solve.set;
       rest = rest;

@@ -14,23 +14,22 @@ use Rattle.model.specs.Plans.{akkt_at}
 use Rattle.panoc_core.specs.declared.panoc_cache.ExitStatus.TheVariants.{Converged}
 use Rattle.alm_core.specs.declared.alm_cache.AlmSettings.{AlmSettings}
 use Rattle.alm_core.specs.declared.alm_cache.AlmOptimizerStatus.{AlmOptimizerStatus}
-use Rattle.alm_core.specs.declared.alm_cache.AlmOutcome.{AlmOutcome}
-use Rattle.alm_core.specs.declared.alm_cache.AlmOutcome.TheVariants.{Asked, Ended, Refused, Failed}
+use Rattle.panoc_core.specs.Told.{Asked, Ended, Refused, Failed}
 use Rattle.alm_core.specs.declared.alm_cache.AlmRun.{AlmRun}
-use Rattle.alm_core.specs.Values.{settings_of, said, first_point, second_point}
+use Rattle.alm_core.specs.Values.{settings_of, said, first_point, second_point, LoopSays}
 use Rattle.alm_calls.specs.LoopCalls.{rest_of, lent_right, Answers, asking, Points}
 use Rattle.claims.specs.History.{Runs, Call}
 use Rattle.claims.specs.Trace.{left, Event, trace}
 use Rattle.claims.specs.Claim.{Each, Follows, ScoresRight, scores, tally, Plan}
 
 -- an outcome: whether a plan is handed back, and the number of a refusal
-abbrev pub hands_plan : AlmOutcome → Bool
+abbrev pub hands_plan : LoopSays → Bool
 hands_plan (Asked q) = false
 hands_plan (Ended e) = true
 hands_plan (Refused m) = false
 hands_plan (Failed c) = false
 
-abbrev pub number_of : AlmOutcome → ℕ
+abbrev pub number_of : LoopSays → ℕ
 number_of (Asked q) = 0
 number_of (Ended e) = 0
 number_of (Refused m) = m
@@ -77,7 +76,7 @@ loop_runs =
       Run = AlmRun;
       Settings = AlmSettings;
       Lent = Places;
-      Outcome = AlmOutcome;
+      Outcome = LoopSays;
       Answers = λ run a v w w' o r. Answers run a v w.u w'.u w.xi w'.xi (record { outcome = o; run = r });
       settings = λ run. run.alm.set;
       rest = rest_of;

@@ -8,15 +8,14 @@ use native.Mathlib.Omega.{arith}
 use lib.Ieee.{Float}
 use Rattle.model.specs.Process.{Kind}
 use Rattle.model.specs.Refusals.{wanted}
-use Rattle.panoc_core.specs.declared.panoc_cache.Answered.{Answered}
-use Rattle.panoc_core.specs.declared.panoc_cache.Outcome.TheVariants.{Refused}
+use Rattle.panoc_core.specs.Told.{Refused}
 use Rattle.panoc_core.specs.declared.panoc_cache.Reply.{Reply}
 use Rattle.panoc_core.specs.declared.panoc_cache.Run.{Run}
 use Rattle.panoc_core.specs.declared.panoc_cache.Solve.{Solve}
 use Rattle.panoc_core.specs.declared.refusals.Wanted.{Wanted}
 use Rattle.std.specs.Prelude as Std
 use Rattle.panoc_core.specs.Rest.{rest}
-use Rattle.panoc_core.specs.Values.{kind_of}
+use Rattle.panoc_core.specs.Values.{kind_of, Gave}
 use Rattle.panoc_core.specs.Board.{Board, run_of, gave, waiting, wanted_of}
 use Rattle.panoc_core.specs.Wanted.{wanted_is}
 use Rattle.panoc_core.specs.Calls.{Answers}
@@ -24,7 +23,7 @@ use Rattle.image.specs.Image.{solve_of, reply_of, strange, noted, step_of}
 use Rattle.image.specs.Rounds.{strange_round}
 use Rattle.host.specs.Exports.{Exported}
 
-pub exported_as : (kind : ℕ) (x : Float) (code : ℕ) (v us ws : List Float) (run : Run) (r : Answered) (a : Reply) → kind ≤ 4 → a ≡ reply_of kind x code → Answers run a v us ws r
+pub exported_as : (kind : ℕ) (x : Float) (code : ℕ) (v us ws : List Float) (run : Run) (r : Gave) (a : Reply) → kind ≤ 4 → a ≡ reply_of kind x code → Answers run a v us ws r
     → Exported kind x code v us ws run r
 exported_as kind x code v us ws run r a h e g = record { malformed = λ q. absurd (omega arith); answered = λ q. subst (λ (y : Reply). Answers run y v us ws r) e g }
 

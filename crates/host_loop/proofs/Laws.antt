@@ -14,8 +14,7 @@ use Rattle.std.specs.Prelude as Std
 use Rattle.panoc_core.specs.Values.{kind_of}
 use Rattle.panoc_core.specs.Board.{waiting}
 use Rattle.alm_core.specs.declared.alm_cache.Alm.{Alm}
-use Rattle.alm_core.specs.declared.alm_cache.AlmAnswered.{AlmAnswered}
-use Rattle.alm_core.specs.declared.alm_cache.AlmOutcome.TheVariants.{Refused}
+use Rattle.panoc_core.specs.Told.{Refused}
 use Rattle.alm_core.specs.declared.alm_cache.AlmRun.{AlmRun}
 use Rattle.alm_core.specs.Rest.{LoopBoard}
 use Rattle.alm_calls.specs.LoopCalls.{Answers, run_of, gave, rest_of, wanted_of}
@@ -24,8 +23,9 @@ use Rattle.image.specs.Image.{reply_of, strange, noted}
 use Rattle.image.specs.Rounds.{strange_round}
 use Rattle.alm_image.specs.AlmImage.{alm_of, step_of}
 use Rattle.host_loop.specs.Exports.{Exported}
+use Rattle.alm_core.specs.Values.{LoopGave}
 
-pub exported_as : (kind : ℕ) (x : Float) (code : ℕ) (v us ws xs zs : List Float) (run : AlmRun) (r : AlmAnswered) (a : Reply) → kind ≤ 4 → a ≡ reply_of kind x code → Answers run a v us ws xs zs r
+pub exported_as : (kind : ℕ) (x : Float) (code : ℕ) (v us ws xs zs : List Float) (run : AlmRun) (r : LoopGave) (a : Reply) → kind ≤ 4 → a ≡ reply_of kind x code → Answers run a v us ws xs zs r
     → Exported kind x code v us ws xs zs run r
 exported_as kind x code v us ws xs zs run r a h e g = record { malformed = λ q. absurd (omega arith); answered = λ q. subst (λ (y : Reply). Answers run y v us ws xs zs r) e g }
 

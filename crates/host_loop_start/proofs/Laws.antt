@@ -4,16 +4,16 @@ use mathlib.Core.List.{List, []}
 use lib.Ieee.{Float}
 use Rattle.panoc_core.specs.Board.{nine}
 use Rattle.alm_core.specs.declared.alm_cache.AlmSettings.{AlmSettings}
-use Rattle.alm_core.specs.declared.alm_cache.AlmStepped.{AlmStepped}
 use Rattle.alm_core.specs.Rest.{LoopBoard}
 use Rattle.alm_core.specs.Board.{set_u, set_y, set_y_plus}
 use Rattle.alm_calls.specs.LoopCalls.{Begins}
+use Rattle.alm_core.specs.Values.{LoopStep}
 
-module _ (s x : AlmSettings) (v xi u y z : List Float) (r : AlmStepped) (g : (b : LoopBoard) → Begins s v xi r (set_u u (set_y y (set_y_plus z b)))) (e : s ≡ x) where
+module _ (s x : AlmSettings) (v xi u y z : List Float) (r : LoopStep) (g : (b : LoopBoard) → Begins s v xi r (set_u u (set_y y (set_y_plus z b)))) (e : s ≡ x) where
   pub begun_set : (q : AlmSettings) → q ≡ x → q ≡ r.alm.set
   begun_set q h = h ∙ sym e ∙ sym (g (record { inner = nine [] [] [] [] [] [] [] [] []; y = []; y_plus = []; w = [] })).settings
 
-  pub begins_as : (t : AlmStepped) → t ≡ r → (b : LoopBoard) → Begins x v xi t (set_u u (set_y y (set_y_plus z b)))
+  pub begins_as : (t : LoopStep) → t ≡ r → (b : LoopBoard) → Begins x v xi t (set_u u (set_y y (set_y_plus z b)))
   begins_as t h b =
-      subst (λ (q : AlmStepped). Begins x v xi q (set_u u (set_y y (set_y_plus z b)))) (sym h)
+      subst (λ (q : LoopStep). Begins x v xi q (set_u u (set_y y (set_y_plus z b)))) (sym h)
       (subst (λ (q : AlmSettings). Begins q v xi r (set_u u (set_y y (set_y_plus z b)))) e (g b))

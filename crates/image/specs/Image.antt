@@ -8,8 +8,8 @@ use Rattle.std.specs.Prelude as Std
 use Rattle.panoc_core.specs.declared.panoc_cache.ExitStatus.{ExitStatus}
 use Rattle.panoc_core.specs.declared.panoc_cache.ExitStatus.TheVariants.{Converged, NotConvergedIterations, NotConvergedOutOfTime}
 use Rattle.panoc_core.specs.declared.panoc_cache.Numbers.{Numbers}
-use Rattle.panoc_core.specs.declared.panoc_cache.Outcome.{Outcome}
-use Rattle.panoc_core.specs.declared.panoc_cache.Outcome.TheVariants.{Asked, Ended, Refused, Failed}
+use Rattle.panoc_core.specs.declared.outcome.Outcome.{Outcome}
+use Rattle.panoc_core.specs.Told.{Asked, Ended, Refused, Failed, numbered}
 use Rattle.panoc_core.specs.declared.panoc_cache.Phase.{Phase}
 use Rattle.panoc_core.specs.declared.panoc_cache.Phase.TheVariants as P
 use Rattle.panoc_core.specs.declared.panoc_cache.Question.{Question}
@@ -19,7 +19,7 @@ use Rattle.panoc_core.specs.declared.panoc_cache.Reply.TheVariants.{Number, Vect
 use Rattle.panoc_core.specs.declared.panoc_cache.Settings.{Settings}
 use Rattle.panoc_core.specs.declared.panoc_cache.Solve.{Solve}
 use Rattle.panoc_core.specs.declared.panoc_cache.SolverStatus.{SolverStatus}
-use Rattle.panoc_core.specs.declared.panoc_cache.Stepped.{Stepped}
+use Rattle.panoc_core.specs.Values.{Says, Step}
 
 -- ---- kinds
 
@@ -143,21 +143,25 @@ solve_of w k f =
       forget = flag_of (get_or w 3 0);
     }
 
--- what a call has told: r is its result, w 1 the number, k 5 and f 11 and 12 the numbers of an end
+-- what a handler gives, o being its result
+abbrev pub step_of : Outcome Question SolverStatus → List ℕ → List ℕ → List Float → Step
+step_of o w k f = record { outcome = numbered o; state = solve_of w k f }
+
+-- what a call for C has told: r is its result, w 1 the number, k 5 and f 11 and 12 the numbers of an end
 abbrev pub status_at : List ℕ → List ℕ → List Float → SolverStatus
 status_at w k f = record { exit_status = status_of (get_or w 1 0); iterations = record { 0 = get_or k 5 0 }; norm_fpr = get_or f 11 nan; cost_value = get_or f 12 nan }
 
-abbrev pub outcomes : List ℕ → List ℕ → List Float → List Outcome
+abbrev pub outcomes : List ℕ → List ℕ → List Float → List Says
 outcomes w k f = Asked (question_of (get_or w 1 0)) ∷ Ended (status_at w k f) ∷ Refused (get_or w 1 0) ∷ []
 
-abbrev pub outcome_of : ℕ → List ℕ → List ℕ → List Float → Outcome
+abbrev pub outcome_of : ℕ → List ℕ → List ℕ → List Float → Says
 outcome_of r w k f = get_or (outcomes w k f) r (Failed (get_or w 1 0))
 
-abbrev pub step_of : ℕ → List ℕ → List ℕ → List Float → Stepped
-step_of r w k f = record { outcome = outcome_of r w k f; solve = solve_of w k f }
+abbrev pub told_of : ℕ → List ℕ → List ℕ → List Float → Step
+told_of r w k f = record { outcome = outcome_of r w k f; state = solve_of w k f }
 
 -- from w, k and f to w', k' and f': the small part stays, and o is told
-abbrev pub Tells : Outcome → ℕ → List ℕ → List ℕ → List Float → List ℕ → List ℕ → List Float → Type 0
+abbrev pub Tells : Says → ℕ → List ℕ → List ℕ → List Float → List ℕ → List ℕ → List Float → Type 0
 Tells o r w k f w' k' f' = (solve_of w' k' f' ≡ solve_of w k f) × (outcome_of r w' k' f' ≡ o)
 
 -- ---- the lent numbers with some of them replaced
@@ -176,9 +180,9 @@ noted_end x c f = get_or f 0 nan ∷ get_or f 1 nan ∷ get_or f 2 nan ∷ get_o
 
 -- ---- the lent numbers as a handler leaves them, with the names of panoc_core's laws
 
--- another phase, and the number that is told
-abbrev pub moved : ℕ → ℕ → List ℕ → List ℕ
-moved p m w = p ∷ m ∷ get_or w 2 0 ∷ get_or w 3 0 ∷ get_or w 4 0 ∷ get_or w 5 0 ∷ []
+-- another phase
+abbrev pub moved : ℕ → List ℕ → List ℕ
+moved p w = p ∷ get_or w 1 0 ∷ get_or w 2 0 ∷ get_or w 3 0 ∷ get_or w 4 0 ∷ get_or w 5 0 ∷ []
 
 -- another end that stands
 abbrev pub stood : ℕ → List ℕ → List ℕ

@@ -1,54 +1,46 @@
-// A handler moves a run by these calls: on to another phase, with what is told.
+// A handler moves a run by these calls: on to another phase, with what the call gives.
 #![tactic(auto)]
 
 ghost use Rattle.std.specs.Prelude.{◌≡◌};
-ghost use Rattle.image.specs.Image.{moved, phase_number, question_number};
+ghost use Rattle.image.specs.Image.{moved, phase_number};
 
-use image::kinds::{phase_number, question_number};
-use image::places::{PHASE, TOLD};
-use image::told;
-use panoc_core::panoc_cache::{Phase, Question};
+use image::kinds::phase_number;
+use image::places::PHASE;
+use panoc_core::outcome::{Outcome, Refusal};
+use panoc_core::panoc_cache::{Phase, Question, SolverStatus};
 
 // On to a phase with a question.
-pub fn ask(phase: Phase, question: Question, w: &mut [u32; 6]) -> u32
-    ensures kind { result ≡ 0 }
-    ensures told { w.new ≡ moved (phase_number phase) (question_number question) w.old }
+pub fn ask(phase: Phase, question: Question, w: &mut [u32; 6]) -> Outcome<Question, SolverStatus>
+    ensures outcome { result ≡ Outcome.Asked question }
+    ensures moved { w.new ≡ moved (phase_number phase) w.old }
 {
-    move_to(phase, question_number(question), w);
-    told::ASKED
+    w[PHASE] = phase_number(phase);
+    Outcome::Asked(question)
 }
 
-// The run ends with a status, by its number.
-pub fn end(status: u32, w: &mut [u32; 6]) -> u32
-    ensures kind { result ≡ 1 }
-    ensures told { w.new ≡ moved 0 status w.old }
+// The run ends.
+pub fn end(status: SolverStatus, w: &mut [u32; 6]) -> Outcome<Question, SolverStatus>
+    ensures outcome { result ≡ Outcome.Ended status }
+    ensures moved { w.new ≡ moved 0 w.old }
 {
-    move_to(Phase::Over, status, w);
-    told::ENDED
+    w[PHASE] = phase_number(Phase::Over);
+    Outcome::Ended(status)
 }
 
-// The run ends, refused by a number.
-pub fn stop(number: u32, w: &mut [u32; 6]) -> u32
-    ensures kind { result ≡ 2 }
-    ensures told { w.new ≡ moved 0 number w.old }
+// The run ends, refused.
+pub fn stop(refusal: Refusal, w: &mut [u32; 6]) -> Outcome<Question, SolverStatus>
+    ensures outcome { result ≡ Outcome.Refused refusal }
+    ensures moved { w.new ≡ moved 0 w.old }
 {
-    move_to(Phase::Over, number, w);
-    told::REFUSED
+    w[PHASE] = phase_number(Phase::Over);
+    Outcome::Refused(refusal)
 }
 
 // The host reports a failure.
-pub fn fail(code: u32, w: &mut [u32; 6]) -> u32
-    ensures kind { result ≡ 3 }
-    ensures told { w.new ≡ moved 0 code w.old }
+pub fn fail(code: u32, w: &mut [u32; 6]) -> Outcome<Question, SolverStatus>
+    ensures outcome { result ≡ Outcome.Failed code }
+    ensures moved { w.new ≡ moved 0 w.old }
 {
-    move_to(Phase::Over, code, w);
-    told::FAILED
-}
-
-// Another phase, and the number that is told.
-fn move_to(phase: Phase, told: u32, w: &mut [u32; 6])
-    ensures { w.new ≡ moved (phase_number phase) told w.old }
-{
-    w[PHASE] = phase_number(phase);
-    w[TOLD] = told;
+    w[PHASE] = phase_number(Phase::Over);
+    Outcome::Failed(code)
 }

@@ -2,20 +2,21 @@
 #![tactic(auto)]
 
 ghost use Rattle.std.specs.Prelude.{◌≡◌, cond};
-ghost use Rattle.image.specs.Image.{settings_given, settings_of, solve_of, outcome_of, step_of, noted, Tells};
+ghost use Rattle.panoc_core.specs.Told.{refusal_number, numbered};
+ghost use Rattle.image.specs.Image.{settings_given, settings_of, solve_of, noted, Tells};
 
 use image::kinds::{
-    akkt_of, akkt_set, akkt_value, flag_number, flag_of, phase_of, question_number, question_of,
-    status_number, status_of,
+    akkt_of, akkt_set, akkt_value, flag_number, flag_of, phase_of, question_number, status_number,
+    status_of,
 };
 use image::places::{
-    AKKT, DONE, END_COST, END_NORM, END_STEPS, FORGET, HAS_AKKT, LEFT, LIMITED, MAX_ITER, N, PHASE,
-    ROUNDS, STATUS, TOLD, TOLERANCE,
+    AKKT, DONE, FORGET, HAS_AKKT, LEFT, LIMITED, MAX_ITER, N, PHASE, ROUNDS, STATUS, TOLERANCE,
 };
 use image::told;
 use image_keep::keep;
 use image_puts::{note, note_end, numbers_of};
-use panoc_core::panoc_cache::{InnerIterations, Outcome, Settings, Solve, SolverStatus, Stepped};
+use panoc_core::outcome::Refusal;
+use panoc_core::panoc_cache::{InnerIterations, Outcome, Settings, Solve};
 
 // The settings of a start, from its numbers.
 pub fn settings_given(
@@ -106,36 +107,9 @@ pub fn store(s: Solve, w: &mut [u32; 6], k: &mut [usize; 6], f: &mut [f64; 13])
     keep(s, w, k, f);
 }
 
-// What a call has told, r being its kind.
-pub fn outcome_of(r: u32, w: &[u32; 6], k: &[usize; 6], f: &[f64; 13]) -> Outcome
-    ensures { result ≡ outcome_of r w.now k.now f.now }
-{
-    match r {
-        told::ASKED => Outcome::Asked(question_of(w[TOLD])),
-        told::ENDED => Outcome::Ended(SolverStatus {
-            exit_status: status_of(w[TOLD]),
-            iterations: InnerIterations(k[END_STEPS]),
-            norm_fpr: f[END_NORM],
-            cost_value: f[END_COST],
-        }),
-        told::REFUSED => Outcome::Refused(w[TOLD]),
-        _ => Outcome::Failed(w[TOLD]),
-    }
-}
-
-// What a call has told, with the small part of the run.
-pub fn step_of(r: u32, w: &[u32; 6], k: &[usize; 6], f: &[f64; 13]) -> Stepped
-    ensures { result ≡ step_of r w.now k.now f.now }
-{
-    Stepped {
-        outcome: outcome_of(r, w, k, f),
-        solve: solve_of(w, k, f),
-    }
-}
-
-// What a call has told, into the lent numbers; its kind is the result.
+// What a call gives, told in the lent numbers; its kind is the result.
 pub fn tell(o: Outcome, w: &mut [u32; 6], k: &mut [usize; 6], f: &mut [f64; 13]) -> u32
-    ensures { Tells o result w.old k.old f.old w.new k.new f.new }
+    ensures { Tells (numbered o) result w.old k.old f.old w.new k.new f.new }
 {
     match o {
         Outcome::Asked(q) => {
@@ -147,8 +121,8 @@ pub fn tell(o: Outcome, w: &mut [u32; 6], k: &mut [usize; 6], f: &mut [f64; 13])
             note_end(end.iterations.0, end.norm_fpr, end.cost_value, k, f);
             told::ENDED
         }
-        Outcome::Refused(number) => {
-            note(number, w);
+        Outcome::Refused(refusal) => {
+            note(refusal.number(), w);
             told::REFUSED
         }
         Outcome::Failed(code) => {
@@ -158,17 +132,17 @@ pub fn tell(o: Outcome, w: &mut [u32; 6], k: &mut [usize; 6], f: &mut [f64; 13])
     }
 }
 
-// The number by which an answer of no kind is refused: 7 where the run waits, else 6.
-fn strange(waits: bool) -> u32
-    ensures { result ≡ cond waits 7 6 }
+// An answer of no kind is refused: by 7 where the run waits, else by 6.
+pub fn strange(waits: bool) -> Refusal
+    ensures { refusal_number result ≡ cond waits 7 6 }
 {
-    if waits { 7 } else { 6 }
+    if waits { Refusal::Kind } else { Refusal::Over }
 }
 
-// An answer of no kind is refused.
-pub fn refuse(waits: bool, w: &mut [u32; 6]) -> u32
-    ensures { (w.new ≡ noted (cond waits 7 6) w.old) × (result ≡ 2) }
+// A refusal, told in the lent numbers.
+pub fn refuse(refusal: Refusal, w: &mut [u32; 6]) -> u32
+    ensures { (w.new ≡ noted (refusal_number refusal) w.old) × (result ≡ 2) }
 {
-    note(strange(waits), w);
+    note(refusal.number(), w);
     told::REFUSED
 }

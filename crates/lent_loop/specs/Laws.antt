@@ -6,21 +6,19 @@ use Rattle.model.specs.Refusals.{answer_refusal, accept}
 use Rattle.panoc_core.specs.declared.panoc_cache.Reply.{Reply}
 use Rattle.panoc_core.specs.declared.panoc_cache.Settings.{Settings}
 use Rattle.panoc_core.specs.declared.panoc_cache.Solve.{Solve}
-use Rattle.panoc_core.specs.declared.panoc_cache.Stepped.{Stepped}
 use Rattle.panoc_core.specs.declared.refusals.Wanted.{Wanted}
 use Rattle.std.specs.Prelude as Std
 use Rattle.panoc_core.specs.Rest.{rest}
-use Rattle.panoc_core.specs.Values.{kind_of}
+use Rattle.panoc_core.specs.Values.{kind_of, Step}
 use Rattle.panoc_core.specs.Values as Inner
 use Rattle.panoc_core.specs.Board.{Board}
 use Rattle.panoc_core.specs.Board as InnerBoard
 use Rattle.alm_core.specs.declared.alm_cache.Alm.{Alm}
-use Rattle.alm_core.specs.declared.alm_cache.AlmOutcome.TheVariants.{Asked}
+use Rattle.panoc_core.specs.Told.{Asked}
 use Rattle.alm_core.specs.declared.alm_cache.AlmPhase.{AlmPhase}
 use Rattle.alm_core.specs.declared.alm_cache.AlmPhase.TheVariants as P
 use Rattle.alm_core.specs.declared.alm_cache.AlmQuestion.{AlmQuestion}
 use Rattle.alm_core.specs.declared.alm_cache.AlmQuestion.TheVariants as Q
-use Rattle.alm_core.specs.declared.alm_cache.AlmStepped.{AlmStepped}
 use Rattle.alm_core.specs.Rest.{LoopBoard, sized, counts}
 use Rattle.alm_core.specs.Board.{Takes, Ready, Carries, EndsWithin, at_phase, stepped, given, four}
 use Rattle.alm_core.specs.Laws.{carries_asked}
@@ -32,6 +30,7 @@ use Rattle.alm_image.specs.AlmImage.{phase_of, question_of, settings_of, alm_of,
 use Rattle.lent_places.specs.Handing.{HandsOut}
 use Rattle.lent_question.specs.Settling.{Settled}
 use Rattle.lent_loop.specs.Lent.{Accepted, Reached, Carried}
+use Rattle.alm_core.specs.Values.{LoopStep}
 
 -- a loop with another inner solve
 abbrev holding : Solve → Alm → Alm
@@ -42,7 +41,7 @@ ready_holding : (s : Alm) (w : Solve) → w.set.n ≡ s.solve.set.n → Ready s 
 unfolding sized counts
 ready_holding s w e h = (h.0, ap (λ (m : ℕ). leb s.left 999 && (leb s.outer.0 (999 - s.left) && (leb s.inner.0 (10000 * s.outer.0) && (leb s.found.0 10000 && eqb m s.set.n)))) e ∙ h.1)
 
-carries_holding : (s : Alm) (w : Solve) (r : Stepped) (b : LoopBoard) (o : AlmStepped) (b' : LoopBoard) → w.set ≡ s.solve.set → Carries (holding w s) r b o b' → Carries s r b o b'
+carries_holding : (s : Alm) (w : Solve) (r : Step) (b : LoopBoard) (o : LoopStep) (b' : LoopBoard) → w.set ≡ s.solve.set → Carries (holding w s) r b o b' → Carries s r b o b'
 carries_holding s w r b o b' e k = λ p c. k p (subst (λ (q : Settings). InnerBoard.Comes q p r b.inner) (sym e) c)
 
 pub blank : LoopBoard
@@ -61,7 +60,7 @@ module _ (a : Reply) (v us xs : List Float) (w k : List ℕ) (f : List Float) (l
   pub accepted_as : m ≡ 0 → Accepted run a v us xs
   accepted_as z = ap (answer_refusal (wanted_of run) (Inner.reply_of a) (length v)) (sym te) ∙ sym (refusal_wanted run wd a (length v) t e q) ∙ z
 
-nothing_out : (q : AlmQuestion) (o : AlmStepped) (x y us xs : List Float) → o.outcome ≡ Asked q → HandsOut o x y us us xs xs
+nothing_out : (q : AlmQuestion) (o : LoopStep) (x y us xs : List Float) → o.outcome ≡ Asked q → HandsOut o x y us us xs xs
 unfolding given xi_handed
 nothing_out q o x y us xs e = record { plan = rw e refl; xi = rw e refl }
 
@@ -76,41 +75,41 @@ module _ (s : Alm) (a : Reply) (v us xs : List Float) (acc : Accepted s a v us x
   pub short_xi : length xs ≤ 33
   short_xi = answer_xi s blank a v us xs 0 _ refl (sym acc) refl
 
-  pub settles : (b b' : LoopBoard) (o t : AlmStepped) (us' xs' : List Float) → Takes s b a v o b' → (t ≡ o) × HandsOut o b'.inner.u b'.y_plus us us' xs xs'
+  pub settles : (b b' : LoopBoard) (o t : LoopStep) (us' xs' : List Float) → Takes s b a v o b' → (t ≡ o) × HandsOut o b'.inner.u b'.y_plus us us' xs xs'
       → Answers (run_of s b) a v us us' xs xs' (gave t b')
   settles b b' o t us' xs' k h =
-      subst (λ (q : AlmStepped). Answers (run_of s b) a v us us' xs xs' (gave q b')) (sym h.0) (answer_goes s b a v us xs 0 _ refl (sym acc) b' us' xs' o refl k h.1.plan h.1.xi)
+      subst (λ (q : LoopStep). Answers (run_of s b) a v us us' xs xs' (gave q b')) (sym h.0) (answer_goes s b a v us xs 0 _ refl (sym acc) b' us' xs' o refl k h.1.plan h.1.xi)
 
   -- by the loop itself
   module _ (z : Alm) (e : z ≡ s) where
     pub own_may : (s.phase ≡ P.Inner → ⊥) → (answer_refusal (wanted_of z) (Inner.reply_of a) (length v) true ≡ 0) × (z.phase ≡ P.Inner → ⊥)
     own_may h = (ap (λ (q : Alm). answer_refusal (wanted_of q) (Inner.reply_of a) (length v) true) e ∙ may, λ q. h (ap (λ (i : Alm). i.phase) (sym e) ∙ q))
 
-    pub own_takes : (b b' : LoopBoard) (o : AlmStepped) → Takes z b a v o b' → Takes s b a v o b'
+    pub own_takes : (b b' : LoopBoard) (o : LoopStep) → Takes z b a v o b' → Takes s b a v o b'
     own_takes b b' o t = subst (λ (q : Alm). Takes q b a v o b') e t
 
   -- by its inner solve, which has come to r
-  module _ (ph : s.phase ≡ P.Inner) (b : LoopBoard) (r : Stepped) (i : Board) (t : InnerBoard.Takes s.solve b.inner a v r i) where
+  module _ (ph : s.phase ≡ P.Inner) (b : LoopBoard) (r : Step) (i : Board) (t : InnerBoard.Takes s.solve b.inner a v r i) where
     ready : Ready s
     ready = inner_ready s b a v r i may ph t
 
     same : r.solve.set.n ≡ s.set.n
     same = inner_n s b a v r i may ph t
 
-    pub on_may : (x : Stepped) (q : Alm) → x ≡ r → q ≡ holding r.solve s → (Ready q) × (x.solve.set.n ≡ q.set.n) × EndsWithin x.outcome
+    pub on_may : (x : Step) (q : Alm) → x ≡ r → q ≡ holding r.solve s → (Ready q) × (x.solve.set.n ≡ q.set.n) × EndsWithin x.outcome
     on_may x q e h =
         subst (λ (c : Alm). (Ready c) × (x.solve.set.n ≡ c.set.n) × EndsWithin x.outcome) (sym h)
-        (subst (λ (c : Stepped). (Ready (holding r.solve s)) × (c.solve.set.n ≡ s.set.n) × EndsWithin c.outcome) (sym e)
+        (subst (λ (c : Step). (Ready (holding r.solve s)) × (c.solve.set.n ≡ s.set.n) × EndsWithin c.outcome) (sym e)
         (ready_holding s r.solve (ap (λ (c : Settings). c.n) t.settings) ready, same, inner_ends s b a v r i may ph t))
 
-    pub on_takes : (x : Stepped) (q : Alm) (o : AlmStepped) (u y : List Float) → x ≡ r → q ≡ holding r.solve s
+    pub on_takes : (x : Step) (q : Alm) (o : LoopStep) (u y : List Float) → x ≡ r → q ≡ holding r.solve s
         → ((c : LoopBoard) → Carries q x (four i.u i.best b.y b.y_plus c) o (four u i.best y b.y_plus c))
         → Takes s b a v o (record { inner = InnerBoard.set_u u i; y = y; y_plus = b.y_plus; w = b.w })
     on_takes x q o u y e h k =
         inner_takes s b a v r i may ph t o u y
         (λ c.
         carries_holding s r.solve r (four i.u i.best b.y b.y_plus c) o (four u i.best y b.y_plus c) t.settings
-        (subst (λ (j : Stepped). Carries (holding r.solve s) j (four i.u i.best b.y b.y_plus c) o (four u i.best y b.y_plus c)) e
+        (subst (λ (j : Step). Carries (holding r.solve s) j (four i.u i.best b.y b.y_plus c) o (four u i.best y b.y_plus c)) e
         (subst (λ (j : Alm). Carries j x (four i.u i.best b.y b.y_plus c) o (four u i.best y b.y_plus c)) h (k c))))
 
 -- ---- what the inner solve of a lent loop told, r, is carried out: its numbers are w, k and f
@@ -125,7 +124,7 @@ module _ (w k : List ℕ) (f : List Float) (lw lk : List ℕ) (lf : List Float) 
       subst (λ (m : ℕ). Carried told (I.step_of m w k f) (step_of 0 w' k f lw lk lf) u best y plus u y us us xs xs) (sym z)
       (record {
         carries = λ c. carries_asked told (four u best y plus c) (I.step_of 0 w k f) (step_of 0 w' k f lw lk lf) h n (I.question_of (get_or w 1 0)) refl same;
-        hands = nothing_out (Q.Inner (I.question_of (get_or w 1 0))) (step_of 0 w' k f lw lk lf) u plus us xs (ap (λ (c : AlmStepped). c.outcome) same);
+        hands = nothing_out (Q.Inner (I.question_of (get_or w 1 0))) (step_of 0 w' k f lw lk lf) u plus us xs (ap (λ (c : LoopStep). c.outcome) same);
       })
     where
       same : step_of 0 w' k f lw lk lf ≡ stepped (Asked (Q.Inner (I.question_of (get_or w 1 0)))) P.Inner told
@@ -135,24 +134,24 @@ module _ (w k : List ℕ) (f : List Float) (lw lk : List ℕ) (lf : List Float) 
           ∙ ap (λ (c : AlmPhase). record { outcome = Asked (Q.Inner (I.question_of (get_or w 1 0))); alm = at_phase c told }) (ap phase_of p)
 
   -- the loop goes on from x, read off the numbers, and has come to o
-  module _ (x : Stepped) (q : Alm) (ex : x ≡ I.step_of r w k f) (eq : q ≡ told) where
+  module _ (x : Step) (q : Alm) (ex : x ≡ I.step_of r w k f) (eq : q ≡ told) where
     pub carry_on_may : Ready told → get_or k 3 0 ≡ get_or lk 4 0 → EndsWithin (I.outcome_of r w k f) → (Ready q) × (x.solve.set.n ≡ q.set.n) × EndsWithin x.outcome
     carry_on_may h n z =
         subst (λ (c : Alm). (Ready c) × (x.solve.set.n ≡ c.set.n) × EndsWithin x.outcome) (sym eq)
-        (subst (λ (c : Stepped). (Ready told) × (c.solve.set.n ≡ told.set.n) × EndsWithin c.outcome) (sym ex) (h, n, z))
+        (subst (λ (c : Step). (Ready told) × (c.solve.set.n ≡ told.set.n) × EndsWithin c.outcome) (sym ex) (h, n, z))
 
-    module _ (o : AlmStepped) (u best y plus u' y' : List Float) (c : (b : LoopBoard) → Carries q x (four u best y plus b) o (four u' best y' plus b)) where
+    module _ (o : LoopStep) (u best y plus u' y' : List Float) (c : (b : LoopBoard) → Carries q x (four u best y plus b) o (four u' best y' plus b)) where
       carries_as : (b : LoopBoard) → Carries told (I.step_of r w k f) (four u best y plus b) o (four u' best y' plus b)
       carries_as b =
           subst (λ (j : Alm). Carries j (I.step_of r w k f) (four u best y plus b) o (four u' best y' plus b)) eq
-          (subst (λ (j : Stepped). Carries q j (four u best y plus b) o (four u' best y' plus b)) ex (c b))
+          (subst (λ (j : Step). Carries q j (four u best y plus b) o (four u' best y' plus b)) ex (c b))
 
       pub carried_settings : Reached told (I.step_of r w k f) u best → settings_of lw lk lf ≡ o.alm.set
       carried_settings g = sym (carries_as (record { inner = g.board; y = y; y_plus = plus; w = [] }) g.process g.comes).settings
 
-      pub carried_on : (t : AlmStepped) (us ws xs zs : List Float) → (t ≡ o) × HandsOut o u' plus us ws xs zs → Carried told (I.step_of r w k f) t u best y plus u' y' us ws xs zs
+      pub carried_on : (t : LoopStep) (us ws xs zs : List Float) → (t ≡ o) × HandsOut o u' plus us ws xs zs → Carried told (I.step_of r w k f) t u best y plus u' y' us ws xs zs
       carried_on t us ws xs zs h =
-          subst (λ (j : AlmStepped). Carried told (I.step_of r w k f) j u best y plus u' y' us ws xs zs) (sym h.0) (record { carries = carries_as; hands = h.1 })
+          subst (λ (j : LoopStep). Carried told (I.step_of r w k f) j u best y plus u' y' us ws xs zs) (sym h.0) (record { carries = carries_as; hands = h.1 })
 
 -- ---- an accepted answer to the inner solve that a lent loop carries: its numbers are w, k and f before and w', k' and f' after, and r is the kind told
 module _ (w k : List ℕ) (f : List Float) (lw lk : List ℕ) (lf : List Float) (a : Reply) (v us xs : List Float) (acc : Accepted (alm_of w k f lw lk lf) a v us xs) (p : get_or lw 0 0 ≡ 3) where
@@ -177,7 +176,7 @@ module _ (w k : List ℕ) (f : List Float) (lw lk : List ℕ) (lf : List Float) 
     pub carry_may : (length us ≤ 64) × (length xs ≤ 33) × (get_or lw 0 0 ≡ 3) × (Ready after) × (get_or k' 3 0 ≡ get_or lk 4 0) × (EndsWithin (I.outcome_of r w' k' f')) × (Reached after (I.step_of r w' k' f') i.u i.best)
     carry_may = (short loop a v us xs acc, short_xi loop a v us xs acc, p, carry_facts.0, carry_facts.1, carry_facts.2, carry_reached)
 
-    pub carried_answers : (o : AlmStepped) (u y ws zs : List Float) → Carried after (I.step_of r w' k' f') o i.u i.best b.y b.y_plus u y us ws xs zs
+    pub carried_answers : (o : LoopStep) (u y ws zs : List Float) → Carried after (I.step_of r w' k' f') o i.u i.best b.y b.y_plus u y us ws xs zs
         → Answers (run_of loop b) a v us ws xs zs (gave o (record { inner = InnerBoard.set_u u i; y = y; y_plus = b.y_plus; w = b.w }))
     carried_answers o u y ws zs c =
         settles loop a v us xs acc b (record { inner = InnerBoard.set_u u i; y = y; y_plus = b.y_plus; w = b.w }) o o ws zs

@@ -13,13 +13,12 @@ use Rattle.matrix_operations.specs.Firsts.{firsts}
 use Rattle.model.specs.Process.{Kind, refused}
 use Rattle.model.specs.Refusals as R
 use Rattle.model.specs.Refusals.{answer_refusal, wanted}
-use Rattle.panoc_core.specs.declared.panoc_cache.Outcome.TheVariants as O
+use Rattle.panoc_core.specs.Told as O
 use Rattle.panoc_core.specs.declared.panoc_cache.Reply.{Reply}
 use Rattle.panoc_core.specs.declared.panoc_cache.Solve.{Solve}
-use Rattle.panoc_core.specs.declared.panoc_cache.Stepped.{Stepped}
 use Rattle.panoc_core.specs.declared.refusals.Wanted.{Wanted}
 use Rattle.std.specs.Prelude as Std
-use Rattle.panoc_core.specs.Values.{reply_of, kind_of}
+use Rattle.panoc_core.specs.Values.{reply_of, kind_of, Step}
 use Rattle.panoc_core.specs.Rest.{rest}
 use Rattle.panoc_core.specs.Board.{Board, run_of, gave, given, Takes, Sound, wanted_of}
 use Rattle.panoc_core.specs.Calls.{Answers}
@@ -34,7 +33,7 @@ module _ (s : Solve) (b : Board) (a : Reply) (v us : List Float) (m : ℕ) (t : 
   refusal_is : answer_refusal (wanted (rest (run_of s b))) (reply_of a) (length v) (eqb (length us) s.set.n) ≡ m
   refusal_is = ap (λ (w : Option Kind). answer_refusal w (reply_of a) (length v) (eqb (length us) s.set.n)) (wanted_is s b) ∙ ap (answer_refusal (wanted_of s) (reply_of a) (length v)) (sym te) ∙ sym e
 
-  pub answer_goes : (b' : Board) (ws : List Float) (r : Stepped) → m ≡ 0 → Takes s b a v r b' → ws ≡ given r.outcome (firsts (length us) b'.best) us → Answers (run_of s b) a v us ws (gave r b')
+  pub answer_goes : (b' : Board) (ws : List Float) (r : Step) → m ≡ 0 → Takes s b a v r b' → ws ≡ given r.outcome (firsts (length us) b'.best) us → Answers (run_of s b) a v us ws (gave r b')
   answer_goes b' ws r z k w =
       let n≡ : length us ≡ s.set.n = eqb-true _ _ (sym te ∙ (refusal_zero (wanted_of s) (reply_of a) (length v) t (sym e ∙ z)).0) in
       record {

@@ -19,14 +19,11 @@ use Rattle.panoc_core.specs.declared.panoc_cache.ExitStatus.{ExitStatus}
 use Rattle.panoc_core.specs.declared.panoc_cache.ExitStatus.TheVariants.{Converged}
 use Rattle.panoc_core.specs.declared.panoc_cache.Settings.{Settings}
 use Rattle.panoc_core.specs.declared.panoc_cache.Numbers.{Numbers}
-use Rattle.panoc_core.specs.declared.panoc_cache.Outcome.{Outcome}
-use Rattle.panoc_core.specs.declared.panoc_cache.Outcome.TheVariants.{Asked, Ended, Refused, Failed}
 use Rattle.panoc_core.specs.declared.panoc_cache.Reply.{Reply}
 use Rattle.panoc_core.specs.declared.panoc_cache.Run.{Run}
 use Rattle.panoc_core.specs.declared.panoc_cache.Solve.{Solve}
-use Rattle.panoc_core.specs.declared.panoc_cache.Stepped.{Stepped}
-use Rattle.panoc_core.specs.declared.panoc_cache.Answered.{Answered}
-use Rattle.panoc_core.specs.Values.{settings_of, status_of, reply_of, said}
+use Rattle.panoc_core.specs.Told.{Asked, Ended, Refused, Failed}
+use Rattle.panoc_core.specs.Values.{settings_of, status_of, reply_of, Says, Step, Gave, said}
 use Rattle.panoc_core.specs.Rest.{rest, sound, iterate_of, state_of}
 
 -- the vectors, in the order of the run's fields
@@ -56,8 +53,8 @@ run_of s b =
       best_u_half_step = b.best;
     }
 
-abbrev pub gave : Stepped → Board → Answered
-gave r b = record { outcome = r.outcome; run = run_of r.solve b }
+abbrev pub gave : Step → Board → Gave
+gave r b = record { outcome = r.outcome; run = run_of r.state b }
 
 -- a lent array, as a contract sees it
 abbrev pub Lent : Type 0
@@ -112,20 +109,20 @@ abbrev pub nine : List Float → List Float → List Float → List Float → Li
 nine u w g p t h r d b = record { u = u; plus = w; gradient = g; previous = p; step = t; half = h; fpr = r; direction = d; best = b }
 
 -- ---- what a call in place comes to; a plan lies in the best half step, and nothing lent is written yet
-unfoldable pub given : Outcome → List Float → List Float → List Float
+unfoldable pub given : Says → List Float → List Float → List Float
 given (Asked q) best us = us
 given (Ended st) best us = best
 given (Refused k) best us = us
 given (Failed c) best us = us
 
-pub record Comes (s : Settings) (p : M.Solve) (r : Stepped) (b : Board) : Type 0 where
-  pub settings : r.solve.set ≡ s
+pub record Comes (s : Settings) (p : M.Solve) (r : Step) (b : Board) : Type 0 where
+  pub settings : r.state.set ≡ s
   pub outcome : r.outcome ≡ said p
-  pub process : rest (run_of r.solve b) ≡ remains p
+  pub process : rest (run_of r.state b) ≡ remains p
   pub plan : (us : List Float) → lent_after plan_of p us ≡ given r.outcome (firsts s.n b.best) us
 
 -- an answer that nothing refuses
-abbrev pub Takes : Solve → Board → Reply → List Float → Stepped → Board → Type 0
+abbrev pub Takes : Solve → Board → Reply → List Float → Step → Board → Type 0
 Takes s b a v r b' = Comes s.set (accept (rest (run_of s b)) (reply_of a) v) r b'
 
 -- ---- the small part with some of it replaced
@@ -138,8 +135,8 @@ at_phase p s = record { phase = p; set = s.set; numbers = s.numbers; left = s.le
 abbrev pub with_status : ExitStatus → Solve → Solve
 with_status e s = record { phase = s.phase; set = s.set; numbers = s.numbers; left = s.left; iterations = s.iterations; status = e; rounds = s.rounds; forget = s.forget }
 
-abbrev pub stepped : Outcome → Phase → Solve → Stepped
-stepped o p s = record { outcome = o; solve = at_phase p s }
+abbrev pub stepped : Says → Phase → Solve → Step
+stepped o p s = record { outcome = o; state = at_phase p s }
 
 -- ---- what stands in the process of a run in place
 abbrev pub set_of : Solve → S.Settings
@@ -175,19 +172,19 @@ Residual n u h g r x z =
     × (z ≡ dot binary64 (firsts n g) (minus binary64 (firsts n u) (firsts n h)))
 
 -- ---- what the parts of a solve come to: its end, a step, the time before it, the next step, what follows a step
-abbrev pub Finishes : Solve → Board → Stepped → Board → Type 0
+abbrev pub Finishes : Solve → Board → Step → Board → Type 0
 Finishes s b r b' = Comes s.set (I.finish binary64 (set_of s) (end_of s) (iterate_at s b)) r b'
 
-abbrev pub Steps : Solve → Board → Stepped → Board → Type 0
+abbrev pub Steps : Solve → Board → Step → Board → Type 0
 Steps s b r b' = Comes s.set (I.step binary64 (set_of s) (end_of s) (next_at s) (iterate_at s b)) r b'
 
-abbrev pub Times : Solve → Bool → Board → Stepped → Board → Type 0
+abbrev pub Times : Solve → Bool → Board → Step → Board → Type 0
 Times s t b r b' = Comes s.set (I.timed binary64 (set_of s) s.left (next_at s) (iterate_at s b) t) r b'
 
-abbrev pub Laps : Solve → Board → Stepped → Board → Type 0
+abbrev pub Laps : Solve → Board → Step → Board → Type 0
 Laps s b r b' = Comes s.set (I.laps binary64 (set_of s) s.left (iterate_at s b)) r b'
 
-abbrev pub Onward : Solve → Board → Stepped → Board → Type 0
+abbrev pub Onward : Solve → Board → Step → Board → Type 0
 Onward s b r b' = Comes s.set (I.onward binary64 (set_of s) (end_of s) (next_at s) (iterate_at s b)) r b'
 
 -- a run that a start made
@@ -241,10 +238,10 @@ abbrev pub asked : List Float → List Float → List Float → List Float → L
 asked u w t h r x b = record { u = u; plus = w; gradient = b.gradient; previous = b.previous; step = t; half = h; fpr = r; direction = b.direction; best = x }
 
 -- ---- a start in place
-pub record Begins (s : Settings) (u : List Float) (r : Stepped) (b : Board) : Type 0 where
-  pub settings : r.solve.set ≡ s
+pub record Begins (s : Settings) (u : List Float) (r : Step) (b : Board) : Type 0 where
+  pub settings : r.state.set ≡ s
   pub outcome : r.outcome ≡ said (start_inner binary64 (settings_of s) u)
-  pub process : rest (run_of r.solve b) ≡ remains (start_inner binary64 (settings_of s) u)
+  pub process : rest (run_of r.state b) ≡ remains (start_inner binary64 (settings_of s) u)
 
 -- the small part of a run that waits for its first COST
 abbrev pub begun : Settings → Solve

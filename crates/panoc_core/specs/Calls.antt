@@ -6,15 +6,14 @@ use Rattle.model.specs.Process.{ask, score, begin, stop, Solve}
 use Rattle.model.specs.Process as M
 use Rattle.model.specs.Refusals.{wanted, answer_refusal, accept, remains, lent_after, plan_of, start_inner}
 use Rattle.panoc_core.specs.declared.panoc_cache.Settings.{Settings}
-use Rattle.panoc_core.specs.declared.panoc_cache.Outcome.TheVariants.{Refused}
+use Rattle.panoc_core.specs.Told.{Refused}
 use Rattle.panoc_core.specs.declared.panoc_cache.Reply.{Reply}
 use Rattle.panoc_core.specs.declared.panoc_cache.Run.{Run}
-use Rattle.panoc_core.specs.declared.panoc_cache.Answered.{Answered}
-use Rattle.panoc_core.specs.Values.{settings_of, reply_of, said, first_point, second_point}
+use Rattle.panoc_core.specs.Values.{settings_of, reply_of, Gave, said, first_point, second_point}
 use Rattle.panoc_core.specs.Rest.{rest}
 
 -- a call has come to the process p, under the settings s: us and ws are the lent u before and after
-pub record Reaches (s : Settings) (p : Solve) (us ws : List Float) (r : Answered) : Type 0 where
+pub record Reaches (s : Settings) (p : Solve) (us ws : List Float) (r : Gave) : Type 0 where
   pub settings : r.run.solve.set ≡ s
   pub outcome : r.outcome ≡ said p
   pub process : rest r.run ≡ remains p
@@ -25,12 +24,12 @@ abbrev pub refusal : Run → Reply → ℕ → ℕ → ℕ
 refusal run a vs us = answer_refusal (wanted (rest run)) (reply_of a) vs (eqb us run.solve.set.n)
 
 -- answer: where the table refuses, its number, the run and the lent u unchanged; else what the process comes to
-pub record Answers (run : Run) (a : Reply) (v us ws : List Float) (r : Answered) : Type 0 where
+pub record Answers (run : Run) (a : Reply) (v us ws : List Float) (r : Gave) : Type 0 where
   pub refused : (k : ℕ) → refusal run a (length v) (length us) ≡ suc k → (r.outcome ≡ Refused (suc k)) × (r.run ≡ run) × (ws ≡ us)
   pub accepted : refusal run a (length v) (length us) ≡ 0 → Reaches run.solve.set (accept (rest run) (reply_of a) v) us ws r
 
 -- start: the process that document 01 begins at u, or its refusal; nothing lent is written
-pub record Starts (s : Settings) (u : List Float) (r : Answered) : Type 0 where
+pub record Starts (s : Settings) (u : List Float) (r : Gave) : Type 0 where
   pub settings : r.run.solve.set ≡ s
   pub outcome : r.outcome ≡ said (start_inner binary64 (settings_of s) u)
   pub process : rest r.run ≡ remains (start_inner binary64 (settings_of s) u)

@@ -26,14 +26,13 @@ use Rattle.panoc_core.specs.declared.panoc_cache.Phase.TheVariants as P
 use Rattle.panoc_core.specs.declared.panoc_cache.Question.TheVariants as Q
 use Rattle.panoc_core.specs.declared.panoc_cache.ExitStatus.{ExitStatus}
 use Rattle.panoc_core.specs.declared.panoc_cache.ExitStatus.TheVariants as E
-use Rattle.panoc_core.specs.declared.panoc_cache.Outcome.TheVariants as O
+use Rattle.panoc_core.specs.Told as O
 use Rattle.panoc_core.specs.declared.panoc_cache.Reply.TheVariants.{Number, Vector}
 use Rattle.std.specs.Prelude as Std
 use Rattle.panoc_core.specs.declared.panoc_cache.Settings.{Settings}
 use Rattle.panoc_core.specs.declared.panoc_cache.Solve.{Solve}
-use Rattle.panoc_core.specs.declared.panoc_cache.Stepped.{Stepped}
 use Rattle.panoc_core.specs.declared.panoc_cache.Run.{Run}
-use Rattle.panoc_core.specs.Values.{akkt_of, status_of, exit_status_of, question_of, said}
+use Rattle.panoc_core.specs.Values.{akkt_of, status_of, exit_status_of, question_of, Step}
 use Rattle.panoc_core.specs.Rest.{rest, resume, sound, retry_of, doubling_at, half_cost_at}
 use Rattle.panoc_core.specs.Board.{Board, run_of, given, Comes, Takes, Sound, Ceiling, Envelope, best_at, set_of, end_of, next_at, iterate_at, state_at, with_numbers, at_phase, with_status, stepped, set_u, set_plus, set_gradient, set_step, set_half, set_fpr, set_direction, set_best, set_previous, six}
 
@@ -84,22 +83,22 @@ rest_over r e = by (sound r.solve) (ap (λ (q : Phase). resume r q) e)
     by false q = refl
 
 -- ---- a question, and a refusal that ends the run
-pub asks_comes : (t : Solve) (b : Board) (p : Phase) (q : M.Question) (k : Kind) (continue : Answer k → M.Solve) (r : Stepped) → Sound t → r ≡ stepped (O.Asked (question_of q)) p t
+pub asks_comes : (t : Solve) (b : Board) (p : Phase) (q : M.Question) (k : Kind) (continue : Answer k → M.Solve) (r : Step) → Sound t → r ≡ stepped (O.Asked (question_of q)) p t
     → resume (run_of (at_phase p t) b) p ≡ ask q k continue → Comes t.set (ask q k continue) r b
-unfolding said remains lent_after given sound
+unfolding O.said remains lent_after given sound
 asks_comes t b p q k continue r h e w = rw e (record { settings = refl; outcome = refl; process = rest_sound _ h ∙ w; plan = λ us. refl })
 
-pub stops_comes : (t : Solve) (b : Board) (k : ℕ) (r : Stepped) → r ≡ stepped (O.Refused k) P.Over t → Comes t.set (stop (refused k)) r b
-unfolding said remains lent_after lent_at given
+pub stops_comes : (t : Solve) (b : Board) (k : ℕ) (r : Step) → r ≡ stepped (O.Refused k) P.Over t → Comes t.set (stop (refused k)) r b
+unfolding O.said remains lent_after lent_at given
 stops_comes t b k r e = rw e (record { settings = refl; outcome = refl; process = rest_over _ refl; plan = λ us. refl })
 
 -- marks are passed
-pub score_comes : (s : Settings) (h : List Float) (x : Float) (p : M.Solve) (r : Stepped) (b : Board) → Comes s p r b → Comes s (score h x p) r b
-unfolding said remains lent_after
+pub score_comes : (s : Settings) (h : List Float) (x : Float) (p : M.Solve) (r : Step) (b : Board) → Comes s p r b → Comes s (score h x p) r b
+unfolding O.said remains lent_after
 score_comes s h x p r b c = record { settings = c.settings; outcome = c.outcome; process = c.process; plan = c.plan }
 
 -- ---- an answer of the kind asked
-module _ (s : Solve) (b b' : Board) (r : Stepped) (h : Sound s) (p : Phase) (e : s.phase ≡ p) (q : M.Question) where
+module _ (s : Solve) (b b' : Board) (r : Step) (h : Sound s) (p : Phase) (e : s.phase ≡ p) (q : M.Question) where
   pub takes_number : (continue : Float → M.Solve) (x : Float) → resume (run_of s b) p ≡ ask q Kind.number continue → Comes s.set (continue x) r b' → Takes s b (Number x) [] r b'
   unfolding accept replied go_on as_number
   takes_number continue x w c = rw (rest_at s b p h e, w) c
@@ -143,7 +142,7 @@ pub taken : (n : ℕ) (v a : List Float) → length v ≡ n → firsts (length v
 taken n v a l e = rw (← l) e
 
 -- ---- the start
-module _ (s : Solve) (b : Board) (ok : Sound s) (r : Stepped) where
+module _ (s : Solve) (b : Board) (ok : Sound s) (r : Step) where
   pub cost_goes : (x : Float) → s.phase ≡ P.Cost → r ≡ stepped (O.Asked Q.Gradient) P.Gradient (with_cost x s) → Takes s b (Number x) [] r b
   unfolding resume I.start_cost sound
   cost_goes x p e = takes_number s b b r ok P.Cost p _ _ x refl (asks_comes (with_cost x s) b P.Gradient _ _ _ r ok e refl)
@@ -185,7 +184,7 @@ status_there E.Converged = refl
 status_there E.NotConvergedIterations = refl
 status_there E.NotConvergedOutOfTime = refl
 
-module _ (s : Solve) (b : Board) (ok : Sound s) (r : Stepped) where
+module _ (s : Solve) (b : Board) (ok : Sound s) (r : Step) where
   module _ (best : List Float) (x y : Float) (xv : x ≡ norm binary64 (minus binary64 (firsts s.set.n b.u) (firsts s.set.n b.half))) (kept : best_at s.set.n best y ≡ keep (best_at s.set.n b.best s.numbers.best_norm_gamma_fpr) (firsts s.set.n b.half) x) where
     finish_kept : keep (iterate_at s b).best (iterate_at s b).half (norm binary64 (minus binary64 (firsts s.set.n b.u) (firsts s.set.n b.half))) ≡ best_at s.set.n best y
     finish_kept = ap (keep (best_at s.set.n b.best s.numbers.best_norm_gamma_fpr) (firsts s.set.n b.half)) (sym xv) ∙ sym kept
@@ -205,7 +204,7 @@ module _ (s : Solve) (b : Board) (ok : Sound s) (r : Stepped) where
   pub last_gives : (x : Float) (st : Rattle.panoc_core.specs.declared.panoc_cache.SolverStatus.SolverStatus) → s.phase ≡ P.LastCost → finite x ≡ true
       → st ≡ record { exit_status = s.status; iterations = s.iterations; norm_fpr = s.numbers.best_norm_gamma_fpr; cost_value = x }
       → r ≡ stepped (O.Ended st) P.Over s → Takes s b (Number x) [] r b
-  unfolding resume I.last_cost said remains lent_after lent_at plan_of given
+  unfolding resume I.last_cost O.said remains lent_after lent_at plan_of given
   last_gives x st p fin sv e =
       takes_number s b b r ok P.LastCost p _ _ x refl
       (rw (fin, e, sv)
@@ -259,7 +258,7 @@ module _ (s : Solve) (b : Board) (ok : Sound s) (p f best : List Float) (x y : F
       made : List Float → S.Best → List Float → Float → State
       made q w g z = record { at = S.with_kept q w (iterate_at s b); residual = g; norm = z }
 
-  module _ (r : Stepped) (t : Bool) (tv : (c : Board) → t ≡ I.passes binary64 (set_of s) (state_at (with_norms x y s) (set_gradient b.gradient (set_previous p (set_fpr f c))))) where
+  module _ (r : Step) (t : Bool) (tv : (c : Board) → t ≡ I.passes binary64 (set_of s) (state_at (with_norms x y s) (set_gradient b.gradient (set_previous p (set_fpr f c))))) where
     pub step_asks : (z v : Float) → z ≡ dot binary64 (firsts s.set.n b.gradient) (minus binary64 (firsts s.set.n b.u) (firsts s.set.n b.half))
         → Ceiling s.numbers.cost_value s.numbers.gamma x z v → t ≡ false → r ≡ stepped (O.Asked Q.Cost) P.HalfCost (with_search s.numbers.tau v (with_norms x y s))
         → Comes s.set (I.step binary64 (set_of s) (end_of s) (next_at s) (iterate_at s b)) r (scored_board best)
@@ -292,7 +291,7 @@ unfolding I.laps
 laps_limited w l i q =
     ap (λ (t : Bool). cond t (ask M.Question.time Kind.decision (I.timed binary64 w l (I.laps binary64 w l) (S.counted i))) (I.timed binary64 w l (I.laps binary64 w l) (S.counted i) true)) q
 
-module _ (s : Solve) (b b' : Board) (r : Stepped) where
+module _ (s : Solve) (b b' : Board) (r : Step) where
   pub timed_goes : (t : Bool) (e : ExitStatus) → e ≡ exit_status_of (I.standing binary64 (set_of s) s.left t)
       → Comes s.set (I.step binary64 (set_of s) (status_of e) (next_at s) (iterate_at s b)) r b'
       → Comes s.set (I.timed binary64 (set_of s) s.left (next_at s) (iterate_at s b) t) r b'
@@ -332,7 +331,7 @@ pub sound_next : (s : Solve) (l : ℕ) → Sound s → s.left ≡ suc l → Soun
 sound_next s l ok z =
     sound_made (with_steps l (s.iterations.0 + 1) s) (sound_n s ok) (sound_limit s ok) (omega (arith, sound_left s ok)) (omega (arith, sound_left s ok, sound_count s ok))
 
-pub next_asks : (s : Solve) (b : Board) (r : Stepped) (l : ℕ) → Sound s → s.left ≡ suc l → s.set.limited ≡ true
+pub next_asks : (s : Solve) (b : Board) (r : Step) (l : ℕ) → Sound s → s.left ≡ suc l → s.set.limited ≡ true
     → r ≡ stepped (O.Asked Q.Time) P.Time (with_steps l (s.iterations.0 + 1) s) → Comes s.set (I.laps binary64 (set_of s) s.left (iterate_at s b)) r b
 unfolding resume
 next_asks s b r l ok z q e =
@@ -358,7 +357,7 @@ pub project_sound : (s : Solve) (y : Float) → Sound s → Sound (with_status E
 project_sound s y ok =
     sound_made (with_status E.Converged (with_steps s.set.max_iter 0 (with_norms s.numbers.norm_gamma_fpr y s))) (sound_n s ok) (sound_limit s ok) (sound_limit s ok) (omega arith)
 
-pub project_goes : (s : Solve) (b b' : Board) (r : Stepped) (v h p w : List Float) (y : Float) → Sound s → s.phase ≡ P.Project → length v ≡ s.set.n → firsts (length v) h ≡ v
+pub project_goes : (s : Solve) (b b' : Board) (r : Step) (v h p w : List Float) (y : Float) → Sound s → s.phase ≡ P.Project → length v ≡ s.set.n → firsts (length v) h ≡ v
     → p ≡ replicate 64 null → w ≡ replicate 64 null → y ≡ inf false
     → (t : Solve) → t ≡ with_status E.Converged (with_steps s.set.max_iter 0 (with_norms s.numbers.norm_gamma_fpr y s))
     → Comes t.set (I.step binary64 (set_of t) (end_of t) (next_at t) (iterate_at t (set_half h (set_previous p (set_best w b))))) r b' → Takes s b Vector v r b'
@@ -371,7 +370,7 @@ project_goes s b b' r v h p w y ok ph l hv pv wv yv t e c₀ =
     (rw (ap (firsts n) pv ∙ zeros, ap (firsts n) wv ∙ zeros, yv, taken n v h l hv) at c)
 
 -- ---- the doubling
-module _ (s : Solve) (b : Board) (ok : Sound s) (r : Stepped) where
+module _ (s : Solve) (b : Board) (ok : Sound s) (r : Step) where
   pub direction_asks : (σ : Float) → σ ≡ I.sigma_of binary64 s.numbers.gamma
       → r ≡ stepped (O.Asked (Q.Direction s.forget)) P.Direction (with_gammas s.numbers.lipschitz_constant s.numbers.gamma σ s)
       → Comes s.set (I.ask_direction binary64 (set_of s) (end_of s) (next_at s) s.forget (state_at s b)) r b
@@ -438,7 +437,7 @@ module _ (s : Solve) (b : Board) (ok : Sound s) (r : Stepped) where
   doubled_cost_stops x b' p fin e = takes_number s b b' r ok P.DoubledCost p _ _ x refl (rw fin (stops_comes s b' 12 r e))
 
 -- ---- DIRECTION and the first step's move
-module _ (s : Solve) (b : Board) (ok : Sound s) (r : Stepped) where
+module _ (s : Solve) (b : Board) (ok : Sound s) (r : Step) where
   pub direction_first : (v w d u : List Float) → s.phase ≡ P.Direction → s.iterations.0 ≡ 0 → firsts s.set.n u ≡ firsts s.set.n b.half
       → r ≡ stepped (O.Asked Q.Cost) P.FirstCost s → Takes s b Vector v r (set_u u (set_plus w (set_direction d b)))
   unfolding resume I.directed I.first_move sound
@@ -492,7 +491,7 @@ module _ (s : Solve) (b : Board) (ok : Sound s) (r : Stepped) where
   first_project_goes v h b' p l hv c = takes_vector s b b' r ok P.FirstProject p _ _ _ v refl (rw (taken s.set.n v h l hv) at c)
 
 -- ---- the candidates
-module _ (s : Solve) (b : Board) (ok : Sound s) (r : Stepped) where
+module _ (s : Solve) (b : Board) (ok : Sound s) (r : Step) where
   pub search_asks : (v d w : List Float) (x z : Float) → length v ≡ s.set.n → firsts (length v) d ≡ v → x ≡ I.envelope binary64 (iterate_at s b)
       → z ≡ sub binary64 x (mul binary64 (mul binary64 s.numbers.sigma s.numbers.norm_gamma_fpr) s.numbers.norm_gamma_fpr)
       → firsts s.set.n w ≡ less_times binary64 (one binary64) (less_times binary64 (sub binary64 (one binary64) (one binary64)) (firsts s.set.n b.u) (firsts s.set.n b.fpr)) (firsts s.set.n d)
@@ -634,7 +633,7 @@ unfolding keep
 keep_not n b h x y q = sym (ap (λ (t : Bool). cond t (record { point = firsts n h; norm = x }) (best_at n b y)) q)
 
 -- the first candidate, with the code's 1
-pub search_asks_at : (s : Solve) (b : Board) → Sound s → (r : Stepped) (v d w : List Float) (x z τ : Float) → τ ≡ one binary64 → length v ≡ s.set.n → firsts (length v) d ≡ v
+pub search_asks_at : (s : Solve) (b : Board) → Sound s → (r : Step) (v d w : List Float) (x z τ : Float) → τ ≡ one binary64 → length v ≡ s.set.n → firsts (length v) d ≡ v
     → x ≡ I.envelope binary64 (iterate_at s b) → z ≡ sub binary64 x (mul binary64 (mul binary64 s.numbers.sigma s.numbers.norm_gamma_fpr) s.numbers.norm_gamma_fpr)
     → firsts s.set.n w ≡ less_times binary64 τ (less_times binary64 (sub binary64 (one binary64) τ) (firsts s.set.n b.u) (firsts s.set.n b.fpr)) (firsts s.set.n d)
     → r ≡ stepped (O.Asked Q.Cost) P.TriedCost (with_rounds 10 s.forget (with_search τ z s))
@@ -652,11 +651,11 @@ pub both_no : (c : Float) (v : List Float) → finite c ≡ false → false ≡ 
 both_no c v q = sym (ap (λ (t : Bool). t && all_finite v) q)
 
 -- ---- what a call gives of a small part that equals another
-pub step_same : (t t' : Solve) (b b' : Board) (r : Stepped) → t ≡ t' → Comes t.set (I.step binary64 (set_of t) (end_of t) (next_at t) (iterate_at t b)) r b'
+pub step_same : (t t' : Solve) (b b' : Board) (r : Step) → t ≡ t' → Comes t.set (I.step binary64 (set_of t) (end_of t) (next_at t) (iterate_at t b)) r b'
     → Comes t'.set (I.step binary64 (set_of t') (end_of t') (next_at t') (iterate_at t' b)) r b'
 step_same t t' b b' r e c = subst (λ (z : Solve). Comes z.set (I.step binary64 (set_of z) (end_of z) (next_at z) (iterate_at z b)) r b') e c
 
-pub finish_same : (t t' : Solve) (b b' : Board) (r : Stepped) → t ≡ t' → Comes t.set (I.finish binary64 (set_of t) (end_of t) (iterate_at t b)) r b'
+pub finish_same : (t t' : Solve) (b b' : Board) (r : Step) → t ≡ t' → Comes t.set (I.finish binary64 (set_of t) (end_of t) (iterate_at t b)) r b'
     → Comes t'.set (I.finish binary64 (set_of t') (end_of t') (iterate_at t' b)) r b'
 finish_same t t' b b' r e c = subst (λ (z : Solve). Comes z.set (I.finish binary64 (set_of z) (end_of z) (iterate_at z b)) r b') e c
 
@@ -664,7 +663,7 @@ pub sound_same : (t t' : Solve) → t ≡ t' → Sound t' → Sound t
 sound_same t t' e ok = subst (λ (z : Solve). Sound z) (sym e) ok
 
 -- the candidate that is taken
-pub taken_goes : (s : Solve) (b b' : Board) (r : Stepped) (u w : List Float) → firsts s.set.n u ≡ firsts s.set.n w
+pub taken_goes : (s : Solve) (b b' : Board) (r : Step) (u w : List Float) → firsts s.set.n u ≡ firsts s.set.n w
     → Comes s.set (I.onward binary64 (set_of s) (end_of s) (next_at s) (iterate_at s (set_u u b))) r b'
     → Comes s.set (I.onward binary64 (set_of s) (end_of s) (next_at s) (S.with_u (firsts s.set.n w) (iterate_at s b))) r b'
 taken_goes s b b' r u w e c = subst (λ (z : List Float). Comes s.set (I.onward binary64 (set_of s) (end_of s) (next_at s) (S.with_u z (iterate_at s b))) r b') e c

@@ -1,7 +1,7 @@
+pub mod Told
 pub mod Values
 pub mod Rest
 pub mod Board
 pub mod Laws
 pub mod Wanted
 pub mod Calls
-pub mod Outcomes

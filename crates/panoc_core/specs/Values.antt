@@ -2,7 +2,7 @@
 use Rattle.std.specs.Prelude.{Bool, true, false, List, [], Float}
 use Rattle.std.specs.Prelude as Std
 use Rattle.std.proofs.Math.Option.{Option, none, some}
-use Rattle.model.specs.Process.{Kind, End, handed, refused, failed, ask, score, begin, stop, Handed}
+use Rattle.model.specs.Process.{Kind, Handed}
 use Rattle.model.specs.Process as M
 use Rattle.model.specs.Refusals as R
 use Rattle.model.specs.State as S
@@ -15,8 +15,13 @@ use Rattle.panoc_core.specs.declared.panoc_cache.Reply.{Reply}
 use Rattle.panoc_core.specs.declared.panoc_cache.Reply.TheVariants.{Number, Vector, Yes, No, Failure}
 use Rattle.panoc_core.specs.declared.refusals.Wanted.{Wanted}
 use Rattle.panoc_core.specs.declared.refusals.Wanted.TheVariants.{Decision}
-use Rattle.panoc_core.specs.declared.panoc_cache.Outcome.{Outcome}
-use Rattle.panoc_core.specs.declared.panoc_cache.Outcome.TheVariants.{Asked, Ended, Refused, Failed}
+use Rattle.panoc_core.specs.declared.panoc_cache.SolverStatus.{SolverStatus}
+use Rattle.panoc_core.specs.declared.panoc_cache.Solve.{Solve}
+use Rattle.panoc_core.specs.declared.panoc_cache.Run.{Run}
+use Rattle.panoc_core.specs.declared.outcome.Stepped.{Stepped}
+use Rattle.panoc_core.specs.declared.outcome.Answered.{Answered}
+use Rattle.panoc_core.specs.Told.{Told}
+use Rattle.panoc_core.specs.Told as Tells
 
 -- the AKKT tolerance, where there is one
 abbrev pub akkt_of : Std.Option Float → Option Float
@@ -82,15 +87,21 @@ second_point (M.Question.project p) = []
 second_point (M.Question.direction forget r u) = u
 second_point M.Question.time = []
 
--- an end: what is handed back with the plan, a refusal's number, a failure's code
-abbrev pub ended : End Handed → Outcome
-ended (handed h) = Ended (record { exit_status = exit_status_of h.status; iterations = record { 0 = h.iterations }; norm_fpr = h.norm; cost_value = h.cost })
-ended (refused k) = Refused k
-ended (failed c) = Failed c
+-- what an end says: what is handed back with the plan
+abbrev pub end_said : Handed → SolverStatus
+end_said h = record { exit_status = exit_status_of h.status; iterations = record { 0 = h.iterations }; norm_fpr = h.norm; cost_value = h.cost }
+
+-- ---- what the calls of an inner solve tell, alone, with the small part, and with the run
+
+abbrev pub Says : Type 0
+Says = Told Question SolverStatus
+
+abbrev pub Step : Type 0
+Step = Stepped Says Solve
+
+abbrev pub Gave : Type 0
+Gave = Answered Says Run
 
 -- what a call says of the process that it has come to
-unfoldable pub said : M.Solve → Outcome
-said (ask q k continue) = Asked (question_of q)
-said (score half norm p) = said p
-said (begin p) = said p
-said (stop e) = ended e
+abbrev pub said : M.Solve → Says
+said = Tells.said question_of end_said

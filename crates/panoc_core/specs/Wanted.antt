@@ -12,16 +12,15 @@ use Rattle.model.specs.Refusals as R
 use Rattle.model.specs.Refusals.{answer_refusal, fits_kind, fits_length, fits_places, as_number, as_vector, as_decision, wanted, accept, replied, go_on, remains, lent_after, lent_at}
 use Rattle.panoc_core.specs.declared.panoc_cache.Phase.{Phase}
 use Rattle.panoc_core.specs.declared.panoc_cache.Phase.TheVariants as P
-use Rattle.panoc_core.specs.declared.panoc_cache.Outcome.TheVariants as O
+use Rattle.panoc_core.specs.Told as O
 use Rattle.panoc_core.specs.declared.panoc_cache.Reply.{Reply}
 use Rattle.panoc_core.specs.declared.panoc_cache.Reply.TheVariants.{Number, Vector, Failure}
 use Rattle.panoc_core.specs.declared.panoc_cache.Settings.{Settings}
 use Rattle.panoc_core.specs.declared.panoc_cache.Solve.{Solve}
-use Rattle.panoc_core.specs.declared.panoc_cache.Stepped.{Stepped}
 use Rattle.panoc_core.specs.declared.panoc_cache.Run.{Run}
 use Rattle.panoc_core.specs.declared.refusals.Wanted.{Wanted}
 use Rattle.std.specs.Prelude as Std
-use Rattle.panoc_core.specs.Values.{reply_of, kind_of, decided, said, settings_of}
+use Rattle.panoc_core.specs.Values.{reply_of, kind_of, decided, Step, settings_of}
 use Rattle.panoc_core.specs.Rest.{rest, resume, sound}
 use Rattle.panoc_core.specs.Board.{Board, run_of, given, Comes, Takes, Sound, set_of, next_at, iterate_at, stepped, wanted_at, wanted_of, wants_vector, begun}
 use Rattle.panoc_core.specs.Laws.{rest_at, rest_sound, rest_over, sound_made}
@@ -211,7 +210,7 @@ accept_failure (score h y p) c v j e = let z : ◌≡◌ {A = ℕ} 0 1 = cc in a
 accept_failure (begin p) c v j e = let z : ◌≡◌ {A = ℕ} 0 1 = cc in absurd (omega arith)
 accept_failure (stop e') c v j e = let z : ◌≡◌ {A = ℕ} 0 1 = cc in absurd (omega arith)
 
-module _ (s : Solve) (b b' : Board) (v : List Float) (r : Stepped) (a : Reply) where
+module _ (s : Solve) (b b' : Board) (v : List Float) (r : Step) (a : Reply) where
   pub took_number : (x : Float) → a ≡ Number x → Takes s b (Number x) [] r b' → Takes s b a v r b'
   took_number x e t =
       subst (λ (z : Reply). Takes s b z v r b') (sym e)
@@ -225,16 +224,16 @@ module _ (s : Solve) (b b' : Board) (v : List Float) (r : Stepped) (a : Reply) w
       subst (λ (z : Reply). Takes s b z v r b') (sym e)
       (subst (λ (p : M.Solve). Comes s.set p r b') (accept_decision (rest (run_of s b)) t [] v) w)
 
-pub took_failure : (s : Solve) (b : Board) (v : List Float) (r : Stepped) (a : Reply) (c : ℕ) → a ≡ Failure c → answer_refusal (wanted_of s) (R.Reply.failure c) (length v) true ≡ 0
+pub took_failure : (s : Solve) (b : Board) (v : List Float) (r : Step) (a : Reply) (c : ℕ) → a ≡ Failure c → answer_refusal (wanted_of s) (R.Reply.failure c) (length v) true ≡ 0
     → r ≡ stepped (O.Failed c) P.Over s → Takes s b a v r b
-unfolding said remains lent_after lent_at given
+unfolding O.said remains lent_after lent_at given
 took_failure s b v r a c e q w =
     let k = failure_wanted (wanted_of s) c (length v) q in
     subst (λ (z : Reply). Takes s b z v r b) (sym e)
     (subst (λ (p : M.Solve). Comes s.set p r b) (sym (accept_failure (rest (run_of s b)) c v k.0 (wanted_is s b ∙ k.1)))
     (rw w (record { settings = refl; outcome = refl; process = rest_over _ refl; plan = λ us. refl })))
 
-pub decision_takes : (s : Solve) (b b' : Board) (r : Stepped) (t : Bool) → wanted_of s ≡ some Kind.decision
+pub decision_takes : (s : Solve) (b b' : Board) (r : Step) (t : Bool) → wanted_of s ≡ some Kind.decision
     → Comes s.set (I.timed binary64 (set_of s) s.left (next_at s) (iterate_at s b) t) r b' → Takes s b (decided t) [] r b'
 unfolding accept replied go_on as_decision resume
 decision_takes s b b' r t e c = subst (λ (p : M.Solve). Comes s.set p r b') (sym (by s.phase refl t)) c

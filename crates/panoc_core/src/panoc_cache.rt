@@ -4,7 +4,10 @@ ghost use Rattle.std.specs.Float.{binary64};
 ghost use Rattle.matrix_operations.specs.Firsts.{firsts};
 ghost use Rattle.model.specs.State.{keep};
 ghost use Rattle.model.specs.Inner.{passes};
+ghost use Rattle.panoc_core.specs.Told.{Refused, refusal_number, told};
 ghost use Rattle.panoc_core.specs.Board.{Board, stepped, at_phase, with_status, best_at, set_of, state_at, set_gradient, set_previous, set_fpr};
+
+use crate::outcome::Refusal;
 
 // What a start is given: n, M, whether TIME is asked, the tolerances. That of AKKT may be missing in an inner solve used alone.
 #[derive(Clone, Copy, Debug, PartialEq)]
@@ -95,14 +98,8 @@ pub struct SolverStatus {
     pub cost_value: f64,
 }
 
-// What a call gives: the next question, the end, a refusal by its number, or the host's failure by its code.
-#[derive(Clone, Copy, Debug, PartialEq)]
-pub enum Outcome {
-    Asked(Question),
-    Ended(SolverStatus),
-    Refused(u32),
-    Failed(u32),
-}
+// What a call gives.
+pub type Outcome = crate::outcome::Outcome<Question, SolverStatus>;
 
 // The small part of a run. left: how many steps may still begin; status: the end that stands for the present step; rounds: how many
 // doublings or candidates may follow; forget: what DIRECTION says.
@@ -118,12 +115,8 @@ pub struct Solve {
     pub forget: bool,
 }
 
-// What a call in place gives: the vectors are where they were lent.
-#[derive(Clone, Copy, Debug, PartialEq)]
-pub struct Stepped {
-    pub outcome: Outcome,
-    pub solve: Solve,
-}
+// What a call in place gives, with the small part.
+pub type Stepped = crate::outcome::Stepped<Outcome, Solve>;
 
 // A run by value: the small part and the vectors.
 #[derive(Clone, Copy)]
@@ -140,19 +133,16 @@ pub struct Run {
     pub best_u_half_step: [f64; 64],
 }
 
-#[derive(Drop)]
-pub struct Answered {
-    pub outcome: Outcome,
-    pub run: Run,
-}
+// What a call by value gives, with the run.
+pub type Answered = crate::outcome::Answered<Outcome, Run>;
 
-// The run ends, refused by a number.
-pub fn stops(s: Solve, number: u32) -> Stepped
-    ensures { result ≡ stepped (Outcome.Refused number) Phase.Over s }
+// The run ends, refused.
+pub fn stops(s: Solve, refusal: Refusal) -> Stepped
+    ensures { told result ≡ stepped (Refused (refusal_number refusal)) Phase.Over s }
 {
     Stepped {
-        outcome: Outcome::Refused(number),
-        solve: at_phase(s, Phase::Over),
+        outcome: Outcome::Refused(refusal),
+        state: at_phase(s, Phase::Over),
     }
 }
 

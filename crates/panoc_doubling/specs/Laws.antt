@@ -5,9 +5,9 @@ use Rattle.std.specs.Float.{nan}
 use Rattle.panoc_core.specs.Board.{Board, Sound, Comes, set_of, end_of, next_at, state_at}
 use Rattle.panoc_core.specs.Laws.{with_norms}
 use Rattle.panoc_core.specs.Rest.{sound, doubling_at}
-use Rattle.panoc_core.specs.declared.panoc_cache.Stepped.{Stepped}
 use Rattle.image.specs.Image.{flag_of, flag_number, solve_of, forgotten, counted_rounds, norms_put, search_put}
 use Rattle.image.specs.Rounds.{flag_round}
+use Rattle.panoc_core.specs.Values.{Step}
 
 -- a run with other rounds
 pub sound_as : (w k k' : List ℕ) (f : List Float) (m : ℕ) → k' ≡ counted_rounds m k → Sound (solve_of w k f) → Sound (solve_of w k' f)
@@ -15,12 +15,12 @@ unfolding sound
 sound_as w k k' f m e h = subst (λ (z : List ℕ). Sound (solve_of w z f)) (sym e) h
 
 -- the doubling of the lent numbers
-abbrev pub Doubles : List ℕ → List ℕ → List Float → Board → Float → Stepped → Board → Type 0
+abbrev pub Doubles : List ℕ → List ℕ → List Float → Board → Float → Step → Board → Type 0
 Doubles w k f b x r b' =
     let s = solve_of w k f in
     Comes s.set (doubling_at (set_of s) (end_of s) (next_at s) s.rounds s.forget s.numbers.rhs_ls (state_at s b) x) r b'
 
-module _ (w w' k : List ℕ) (f : List Float) (b b' : Board) (x : Float) (r : Stepped) where
+module _ (w w' k : List ℕ) (f : List Float) (b b' : Board) (x : Float) (r : Step) where
   -- after the half step's cost: ten rounds, and to forget at the start
   pub half_doubles : (k' : List ℕ) (m : ℕ) → w' ≡ forgotten m w → m ≡ flag_number (eqb (get_or k 1 0) 0) → k' ≡ counted_rounds 10 k → Doubles w' k' f b x r b'
       → Comes (solve_of w k f).set

@@ -4,7 +4,7 @@ use Rattle.std.proofs.Common.{ap, ◌∙◌}
 use Rattle.std.specs.Float.{nan}
 use Rattle.panoc_core.specs.Board.{stepped}
 use Rattle.panoc_core.specs.Laws.{with_gammas}
-use Rattle.panoc_core.specs.declared.panoc_cache.Outcome.TheVariants.{Asked}
+use Rattle.panoc_core.specs.Told.{Asked}
 use Rattle.panoc_core.specs.declared.panoc_cache.Phase.TheVariants as P
 use Rattle.panoc_core.specs.declared.panoc_cache.Question.{Question}
 use Rattle.panoc_core.specs.declared.panoc_cache.Question.TheVariants as Q

@@ -12,10 +12,10 @@ use Rattle.panoc_core.specs.Laws.{and_left, and_right, taken, tried_taken, tried
 use Rattle.panoc_core.specs.declared.panoc_cache.Phase.TheVariants as P
 use Rattle.panoc_core.specs.declared.panoc_cache.Reply.TheVariants.{Vector}
 use Rattle.panoc_core.specs.declared.panoc_cache.Solve.{Solve}
-use Rattle.panoc_core.specs.declared.panoc_cache.Stepped.{Stepped}
 use Rattle.model.specs.State.{with_u}
 use Rattle.image.specs.Image.{solve_of}
 use Rattle.panoc_search.specs.Laws.{envelope_at}
+use Rattle.panoc_core.specs.Values.{Step}
 
 -- the sums of a residual over a slice of the length asked
 module _ (n : ℕ) (v : List Float) (l : length v ≡ n) where
@@ -49,7 +49,7 @@ worse_rounds x y m t e q z = some_rounds (and_right (lt x y) (not (eqb m 0)) (sy
     some_rounds y z = omega (arith, ap {B = ℕ} (λ (c : Bool). cond c 1 0) (sym y ∙ ap not (eq-eqb m 0 z)))
 
 -- a candidate that is not worse, or the last, is taken
-module _ (s : Solve) (b : Board) (ok : Sound s) (r : Stepped) (v h : List Float) (x : Float) (ph : s.phase ≡ P.TriedProject) (l : length v ≡ s.set.n) (hv : firsts (length v) h ≡ v) (xv : x ≡ I.envelope binary64 (iterate_at s (set_half h b))) (u p f w : List Float)
+module _ (s : Solve) (b : Board) (ok : Sound s) (r : Step) (v h : List Float) (x : Float) (ph : s.phase ≡ P.TriedProject) (l : length v ≡ s.set.n) (hv : firsts (length v) h ≡ v) (xv : x ≡ I.envelope binary64 (iterate_at s (set_half h b))) (u p f w : List Float)
     (c : (d : Board) → Comes s.set (I.onward binary64 (set_of s) (end_of s) (next_at s) (with_u (firsts s.set.n b.plus) (iterate_at s (six b.u b.gradient b.previous h b.fpr b.best d)))) r (six u b.gradient p h f w d)) where
   pub tried_takes : (t : Bool) → t ≡ (lt s.numbers.rhs_ls x && not (eqb s.rounds 0)) → t ≡ false → Takes s b Vector v r (six u b.gradient p h f w b)
   tried_takes t e q = by (lt s.numbers.rhs_ls x) refl (sym e ∙ q)

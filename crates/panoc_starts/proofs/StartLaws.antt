@@ -14,11 +14,10 @@ use Rattle.model.specs.Inner as I
 use Rattle.model.specs.Refusals.{remains, inner_refusal, unless, sizes_right, limit_right, tolerance_right, akkt_right, start_inner, or_refused}
 use Rattle.panoc_core.specs.declared.panoc_cache.Phase.TheVariants as P
 use Rattle.panoc_core.specs.declared.panoc_cache.Question.TheVariants as Q
-use Rattle.panoc_core.specs.declared.panoc_cache.Outcome.TheVariants as O
+use Rattle.panoc_core.specs.Told as O
 use Rattle.panoc_core.specs.declared.panoc_cache.Settings.{Settings}
 use Rattle.panoc_core.specs.declared.panoc_cache.Solve.{Solve}
-use Rattle.panoc_core.specs.declared.panoc_cache.Stepped.{Stepped}
-use Rattle.panoc_core.specs.Values.{akkt_of, said, settings_of}
+use Rattle.panoc_core.specs.Values.{akkt_of, said, settings_of, Step}
 use Rattle.panoc_core.specs.Board.{Board, gave, stepped, set_u, Begins, begun}
 use Rattle.panoc_core.specs.Calls.{Starts}
 use Rattle.panoc_core.specs.Laws.{rest_over}
@@ -48,9 +47,9 @@ module _ (s : Settings) (us : List Float) (m : ℕ) (e : m ≡ inner_refusal (se
       let run≡ : start_inner binary64 (settings_of s) us ≡ I.solve binary64 (settings_of s) us = ap (λ (k : ℕ). or_refused k (I.solve binary64 (settings_of s) us)) e₀ in
       record { settings = refl; outcome = sym (ap said run≡); process = begun_rest s b us ok.0 ok.2 u≡ ∙ sym (ap remains run≡) }
 
-  pub start_refuses : (r : Stepped) → (m ≡ 0 → ⊥) → r ≡ stepped (O.Refused m) P.Over (begun s) → Begins s us r b
+  pub start_refuses : (r : Step) → (m ≡ 0 → ⊥) → r ≡ stepped (O.Refused m) P.Over (begun s) → Begins s us r b
   unfolding start_inner or_refused said remains
-  start_refuses r z w = subst (λ (q : Stepped). Begins s us q b) (sym w) (by m e z)
+  start_refuses r z w = subst (λ (q : Step). Begins s us q b) (sym w) (by m e z)
     where
       by : (k : ℕ) → k ≡ inner_refusal (settings_of s) (length us) → (k ≡ 0 → ⊥) → Begins s us (stepped (O.Refused k) P.Over (begun s)) b
       by zero i h = absurd (h refl)
@@ -61,8 +60,8 @@ module _ (s : Settings) (us : List Float) (m : ℕ) (e : m ≡ inner_refusal (se
 pub start_same : (s : Settings) (us : List Float) (t t' : Solve) (b : Board) → t ≡ t' → Begins s us (record { outcome = O.Asked Q.Cost; solve = t' }) b → Begins s us (record { outcome = O.Asked Q.Cost; solve = t }) b
 start_same s us t t' b e w = subst (λ (z : Solve). Begins s us (record { outcome = O.Asked Q.Cost; solve = z }) b) (sym e) w
 
-pub start_stops : {s : Settings} {t : Solve} {k : ℕ} {r : Stepped} → t ≡ begun s → r ≡ stepped (O.Refused k) P.Over t → r ≡ stepped (O.Refused k) P.Over (begun s)
+pub start_stops : {s : Settings} {t : Solve} {k : ℕ} {r : Step} → t ≡ begun s → r ≡ stepped (O.Refused k) P.Over t → r ≡ stepped (O.Refused k) P.Over (begun s)
 start_stops {s} {t} {k} {r} e w = w ∙ ap (stepped (O.Refused k) P.Over) e
 
-pub starts : (s : Settings) (us : List Float) (r : Stepped) (w : List Float) → ((b : Board) → Begins s us r (set_u w b)) → (b : Board) → Starts s us (gave r (set_u w b))
+pub starts : (s : Settings) (us : List Float) (r : Step) (w : List Float) → ((b : Board) → Begins s us r (set_u w b)) → (b : Board) → Starts s us (gave r (set_u w b))
 starts s us r w f b = record { settings = (f b).settings; outcome = (f b).outcome; process = (f b).process }

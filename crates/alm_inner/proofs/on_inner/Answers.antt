@@ -1,11 +1,11 @@
 use Rattle.std.proofs.Common.{subst}
 use Rattle.alm_core.specs.Laws.{carries_asked, carries_ended, carries_refused, carries_failed}
 use Rattle.alm_core.specs.Board.{four, EndsWithin}
-use Rattle.panoc_core.specs.declared.panoc_cache.Outcome.{Outcome}
 use Rattle.alm_inner.proofs.on_inner.Goals as goal
+use Rattle.panoc_core.specs.Values.{Says}
 
 pub on_solved-requires : goal.on_solved-requires
-on_solved-requires c = (c.requires.0, c.requires.1, subst (λ (z : Outcome). EndsWithin z) c.in-Ended.is c.requires.2)
+on_solved-requires c = (c.requires.0, c.requires.1, subst (λ (z : Says). EndsWithin z) c.in-Ended.is c.requires.2)
 
 pub returns-in-Asked : goal.returns-in-Asked
 returns-in-Asked c = λ b. carries_asked c.args.s (four c.args.u.now c.args.best.now c.args.y.now c.args.plus.now b) c.args.r _ c.requires.0 c.requires.1 _ c.in-Asked.is c.asks.ensures

@@ -1,4 +1,4 @@
-use Rattle.alm_core.specs.declared.alm_cache.AlmOutcome.TheVariants as O
+use Rattle.panoc_core.specs.Told as O
 use Rattle.std.proofs.Common.{ap}
 use Rattle.alm_core.specs.declared.alm_cache.Alm.{Alm}
 use Rattle.alm_core.proofs.alm_steps.stops.Goals as goal
