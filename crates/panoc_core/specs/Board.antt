@@ -22,7 +22,7 @@ use Rattle.panoc_core.specs.declared.panoc_cache.Numbers.{Numbers}
 use Rattle.panoc_core.specs.declared.panoc_cache.Reply.{Reply}
 use Rattle.panoc_core.specs.declared.panoc_cache.Run.{Run}
 use Rattle.panoc_core.specs.declared.panoc_cache.Solve.{Solve}
-use Rattle.panoc_core.specs.Told.{Asked, Ended, Refused, Failed}
+use Rattle.panoc_core.specs.Told.{given}
 use Rattle.panoc_core.specs.Values.{settings_of, status_of, reply_of, Says, Step, Gave, said}
 use Rattle.panoc_core.specs.Rest.{rest, sound, iterate_of, state_of}
 
@@ -109,12 +109,6 @@ abbrev pub nine : List Float → List Float → List Float → List Float → Li
 nine u w g p t h r d b = record { u = u; plus = w; gradient = g; previous = p; step = t; half = h; fpr = r; direction = d; best = b }
 
 -- ---- what a call in place comes to; a plan lies in the best half step, and nothing lent is written yet
-unfoldable pub given : Says → List Float → List Float → List Float
-given (Asked q) best us = us
-given (Ended st) best us = best
-given (Refused k) best us = us
-given (Failed c) best us = us
-
 pub record Comes (s : Settings) (p : M.Solve) (r : Step) (b : Board) : Type 0 where
   pub settings : r.state.set ≡ s
   pub outcome : r.outcome ≡ said p

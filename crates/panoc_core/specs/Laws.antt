@@ -34,7 +34,7 @@ use Rattle.panoc_core.specs.declared.panoc_cache.Solve.{Solve}
 use Rattle.panoc_core.specs.declared.panoc_cache.Run.{Run}
 use Rattle.panoc_core.specs.Values.{akkt_of, status_of, exit_status_of, question_of, Step}
 use Rattle.panoc_core.specs.Rest.{rest, resume, sound, retry_of, doubling_at, half_cost_at}
-use Rattle.panoc_core.specs.Board.{Board, run_of, given, Comes, Takes, Sound, Ceiling, Envelope, best_at, set_of, end_of, next_at, iterate_at, state_at, with_numbers, at_phase, with_status, stepped, set_u, set_plus, set_gradient, set_step, set_half, set_fpr, set_direction, set_best, set_previous, six}
+use Rattle.panoc_core.specs.Board.{Board, run_of, Comes, Takes, Sound, Ceiling, Envelope, best_at, set_of, end_of, next_at, iterate_at, state_at, with_numbers, at_phase, with_status, stepped, set_u, set_plus, set_gradient, set_step, set_half, set_fpr, set_direction, set_best, set_previous, six}
 
 -- ---- both of two tests
 pub and_left : (a b : Bool) → (a && b) ≡ true → a ≡ true
@@ -85,11 +85,11 @@ rest_over r e = by (sound r.solve) (ap (λ (q : Phase). resume r q) e)
 -- ---- a question, and a refusal that ends the run
 pub asks_comes : (t : Solve) (b : Board) (p : Phase) (q : M.Question) (k : Kind) (continue : Answer k → M.Solve) (r : Step) → Sound t → r ≡ stepped (O.Asked (question_of q)) p t
     → resume (run_of (at_phase p t) b) p ≡ ask q k continue → Comes t.set (ask q k continue) r b
-unfolding O.said remains lent_after given sound
+unfolding O.said remains lent_after O.given sound
 asks_comes t b p q k continue r h e w = rw e (record { settings = refl; outcome = refl; process = rest_sound _ h ∙ w; plan = λ us. refl })
 
 pub stops_comes : (t : Solve) (b : Board) (k : ℕ) (r : Step) → r ≡ stepped (O.Refused k) P.Over t → Comes t.set (stop (refused k)) r b
-unfolding O.said remains lent_after lent_at given
+unfolding O.said remains lent_after lent_at O.given
 stops_comes t b k r e = rw e (record { settings = refl; outcome = refl; process = rest_over _ refl; plan = λ us. refl })
 
 -- marks are passed
@@ -204,7 +204,7 @@ module _ (s : Solve) (b : Board) (ok : Sound s) (r : Step) where
   pub last_gives : (x : Float) (st : Rattle.panoc_core.specs.declared.panoc_cache.SolverStatus.SolverStatus) → s.phase ≡ P.LastCost → finite x ≡ true
       → st ≡ record { exit_status = s.status; iterations = s.iterations; norm_fpr = s.numbers.best_norm_gamma_fpr; cost_value = x }
       → r ≡ stepped (O.Ended st) P.Over s → Takes s b (Number x) [] r b
-  unfolding resume I.last_cost O.said remains lent_after lent_at plan_of given
+  unfolding resume I.last_cost O.said remains lent_after lent_at plan_of O.given
   last_gives x st p fin sv e =
       takes_number s b b r ok P.LastCost p _ _ x refl
       (rw (fin, e, sv)

@@ -1,5 +1,5 @@
 -- What a call tells, for a run of any kind: its outcome, with the table's number of a refusal. Definitions only.
-use Rattle.std.specs.Prelude.{ℕ}
+use Rattle.std.specs.Prelude.{ℕ, List, Float}
 use Rattle.std.specs.Prelude as Std
 use Rattle.std.specs.declared.result.Result.{Result}
 use Rattle.model.specs.Process.{End, handed, refused, failed, Process, ask, score, begin, stop}
@@ -75,3 +75,10 @@ said asks tells (ask q k continue) = Asked (asks q)
 said asks tells (score half norm p) = said asks tells p
 said asks tells (begin p) = said asks tells p
 said asks tells (stop e) = ended tells e
+
+-- what stands in a lent place after a call: what an end hands back, else what was there
+unfoldable pub given : {Q E : Type 0} → Told Q E → List Float → List Float → List Float
+given (Asked q) plan us = us
+given (Ended st) plan us = plan
+given (Refused k) plan us = us
+given (Failed c) plan us = us

@@ -22,7 +22,7 @@ use Rattle.panoc_core.specs.declared.refusals.Wanted.{Wanted}
 use Rattle.std.specs.Prelude as Std
 use Rattle.panoc_core.specs.Values.{reply_of, kind_of, decided, Step, settings_of}
 use Rattle.panoc_core.specs.Rest.{rest, resume, sound}
-use Rattle.panoc_core.specs.Board.{Board, run_of, given, Comes, Takes, Sound, set_of, next_at, iterate_at, stepped, wanted_at, wanted_of, wants_vector, begun}
+use Rattle.panoc_core.specs.Board.{Board, run_of, Comes, Takes, Sound, set_of, next_at, iterate_at, stepped, wanted_at, wanted_of, wants_vector, begun}
 use Rattle.panoc_core.specs.Laws.{rest_at, rest_sound, rest_over, sound_made}
 
 -- ---- two kinds that differ
@@ -226,7 +226,7 @@ module _ (s : Solve) (b b' : Board) (v : List Float) (r : Step) (a : Reply) wher
 
 pub took_failure : (s : Solve) (b : Board) (v : List Float) (r : Step) (a : Reply) (c : ℕ) → a ≡ Failure c → answer_refusal (wanted_of s) (R.Reply.failure c) (length v) true ≡ 0
     → r ≡ stepped (O.Failed c) P.Over s → Takes s b a v r b
-unfolding O.said remains lent_after lent_at given
+unfolding O.said remains lent_after lent_at O.given
 took_failure s b v r a c e q w =
     let k = failure_wanted (wanted_of s) c (length v) q in
     subst (λ (z : Reply). Takes s b z v r b) (sym e)
