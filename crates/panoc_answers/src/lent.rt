@@ -10,7 +10,7 @@ ghost use Rattle.image.specs.Image.{solve_of, step_of};
 use image::kinds::phase_of;
 use image::places::PHASE;
 use image_moves::fail;
-use panoc_core::panoc_cache::{Phase, Reply};
+use panoc_core::panoc_cache::{Outcome, Phase, Reply};
 use panoc_doubling::on_doubled_project;
 use panoc_estimate::{on_gradient, on_shifted};
 use panoc_first::{on_direction, on_first_gradient};
@@ -35,7 +35,7 @@ pub fn on_vector(
     fpr: &mut [f64; 64],
     direction: &mut [f64; 64],
     best: &mut [f64; 64],
-) -> u32
+) -> Outcome
     requires { (wants_vector (wanted_of (solve_of w.old k.old f.old)) ≡ true) × (length v.now ≡ get_or k.old 3 0) }
     ensures { Takes (solve_of w.old k.old f.old) (before u plus gradient previous step half fpr direction best) Reply.Vector v.now (step_of result w.new k.new f.new) (after u plus gradient previous step half fpr direction best) }
 {
@@ -67,7 +67,7 @@ pub fn on_decision(
     half: &[f64; 64],
     fpr: &mut [f64; 64],
     best: &mut [f64; 64],
-) -> u32
+) -> Outcome
     requires { wanted_of (solve_of w.old k.now f.old) ≡ some Kind.decision }
     ensures { (b : Board) → Takes (solve_of w.old k.now f.old) (six u.now gradient.now previous.old half.now fpr.old best.old b) (decided yes) [] (step_of result w.new k.now f.new) (six u.now gradient.now previous.new half.now fpr.new best.new b) }
 {
@@ -90,7 +90,7 @@ pub fn take_lent(
     fpr: &mut [f64; 64],
     direction: &mut [f64; 64],
     best: &mut [f64; 64],
-) -> u32
+) -> Outcome
     requires { answer_refusal (wanted_of (solve_of w.old k.old f.old)) (reply_of a) (length v.now) true ≡ 0 }
     ensures { Takes (solve_of w.old k.old f.old) (before u plus gradient previous step half fpr direction best) a v.now (step_of result w.new k.new f.new) (after u plus gradient previous step half fpr direction best) }
 {

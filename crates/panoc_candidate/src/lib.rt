@@ -13,6 +13,7 @@ ghost use Rattle.image.specs.Image.{solve_of, step_of};
 
 use image::places::N;
 use panoc_steps::onward;
+use panoc_core::panoc_cache::Outcome;
 
 // The candidate is taken: it becomes u, and its residual, of this norm squared and product with the gradient, is stored.
 pub fn take_candidate(
@@ -28,7 +29,7 @@ pub fn take_candidate(
     half: &[f64; 64],
     fpr: &mut [f64; 64],
     best: &mut [f64; 64],
-) -> u32
+) -> Outcome
     requires { (Sound (solve_of w.old k.old f.old)) × (norm_squared ≡ squares binary64 (minus binary64 (firsts (get_or k.old 3 0) plus.now) (firsts (get_or k.old 3 0) half.now))) × (product ≡ dot binary64 (firsts (get_or k.old 3 0) gradient.now) (minus binary64 (firsts (get_or k.old 3 0) plus.now) (firsts (get_or k.old 3 0) half.now))) }
     ensures { (b : Board) → Comes (solve_of w.old k.old f.old).set (I.onward binary64 (set_of (solve_of w.old k.old f.old)) (end_of (solve_of w.old k.old f.old)) (next_at (solve_of w.old k.old f.old)) (with_u (firsts (get_or k.old 3 0) plus.now) (iterate_at (solve_of w.old k.old f.old) (six u.old gradient.now previous.old half.now fpr.old best.old b)))) (step_of result w.new k.new f.new) (six u.new gradient.now previous.new half.now fpr.new best.new b) }
 {

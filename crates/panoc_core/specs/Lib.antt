@@ -1,4 +1,5 @@
 pub mod Told
+pub mod Numbers
 pub mod Values
 pub mod Rest
 pub mod Board

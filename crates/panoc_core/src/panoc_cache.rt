@@ -4,10 +4,7 @@ ghost use Rattle.std.specs.Float.{binary64};
 ghost use Rattle.matrix_operations.specs.Firsts.{firsts};
 ghost use Rattle.model.specs.State.{keep};
 ghost use Rattle.model.specs.Inner.{passes};
-ghost use Rattle.panoc_core.specs.Told.{Refused, refusal_number, told};
-ghost use Rattle.panoc_core.specs.Board.{Board, stepped, at_phase, with_status, best_at, set_of, state_at, set_gradient, set_previous, set_fpr};
-
-use crate::outcome::Refusal;
+ghost use Rattle.panoc_core.specs.Board.{Board, at_phase, with_status, best_at, set_of, state_at, set_gradient, set_previous, set_fpr};
 
 // What a start is given: n, M, whether TIME is asked, the tolerances. That of AKKT may be missing in an inner solve used alone.
 #[derive(Clone, Copy, Debug, PartialEq)]
@@ -135,16 +132,6 @@ pub struct Run {
 
 // What a call by value gives, with the run.
 pub type Answered = crate::outcome::Answered<Outcome, Run>;
-
-// The run ends, refused.
-pub fn stops(s: Solve, refusal: Refusal) -> Stepped
-    ensures { told result ≡ stepped (Refused (refusal_number refusal)) Phase.Over s }
-{
-    Stepped {
-        outcome: Outcome::Refused(refusal),
-        state: at_phase(s, Phase::Over),
-    }
-}
 
 // The same run at another phase.
 pub fn at_phase(s: Solve, phase: Phase) -> Solve

@@ -9,7 +9,8 @@ use image::places::{COST, DONE, GAMMA, LEAST, N, TAU};
 use image_moves::{ask, stop};
 use image_puts::{put_forget, put_norms, put_rounds, put_search};
 use panoc_core::lipschitz_estimator::lipschitz_check_rhs;
-use panoc_core::panoc_cache::{Phase, Question, Reply};
+use panoc_core::outcome::Refusal;
+use panoc_core::panoc_cache::{Outcome, Phase, Question, Reply};
 use panoc_lipschitz::update_lipschitz_constant;
 
 // COST at the half step is x. The start also forgets.
@@ -21,7 +22,7 @@ pub fn on_half_cost(
     u: &[f64; 64],
     gradient: &[f64; 64],
     step: &mut [f64; 64],
-) -> u32
+) -> Outcome
     requires { (Sound (solve_of w.old k.old f.old)) × (phase_of (get_or w.old 0 0) ≡ Phase.HalfCost) }
     ensures { (b : Board) → Takes (solve_of w.old k.old f.old) (set_u u.now (set_gradient gradient.now (set_step step.old b))) (Reply.Number x) [] (step_of result w.new k.new f.new) (set_u u.now (set_gradient gradient.now (set_step step.new b))) }
 {
@@ -30,7 +31,7 @@ pub fn on_half_cost(
         put_rounds(10, k);
         update_lipschitz_constant(x, w, k, f, u, gradient, step)
     } else {
-        stop(11, w)
+        stop(Refusal::HalfCost, w)
     }
 }
 
@@ -41,7 +42,7 @@ pub fn on_doubled_project(
     k: &[usize; 6],
     f: &[f64; 13],
     half: &mut [f64; 64],
-) -> u32
+) -> Outcome
     requires { (Sound (solve_of w.old k.now f.now)) × (phase_of (get_or w.old 0 0) ≡ Phase.DoubledProject) × (length v.now ≡ get_or k.now 3 0) }
     ensures { (b : Board) → Takes (solve_of w.old k.now f.now) (set_half half.old b) Reply.Vector v.now (step_of result w.new k.now f.now) (set_half half.new b) }
 {
@@ -60,7 +61,7 @@ pub fn on_doubled_cost(
     step: &mut [f64; 64],
     half: &[f64; 64],
     fpr: &mut [f64; 64],
-) -> u32
+) -> Outcome
     requires { (Sound (solve_of w.old k.old f.old)) × (phase_of (get_or w.old 0 0) ≡ Phase.DoubledCost) }
     ensures { (b : Board) → Takes (solve_of w.old k.old f.old) (set_u u.now (set_gradient gradient.now (set_step step.old (set_half half.now (set_fpr fpr.old b))))) (Reply.Number x) [] (step_of result w.new k.new f.new) (set_u u.now (set_gradient gradient.now (set_step step.new (set_half half.now (set_fpr fpr.new b))))) }
 {
@@ -72,6 +73,6 @@ pub fn on_doubled_cost(
         put_forget(true, w);
         update_lipschitz_constant(x, w, k, f, u, gradient, step)
     } else {
-        stop(12, w)
+        stop(Refusal::DoubledCost, w)
     }
 }

@@ -9,10 +9,13 @@ ghost use Rattle.panoc_core.specs.Values.{exit_status_of};
 ghost use Rattle.panoc_core.specs.Board.{Board, Sound, Takes};
 ghost use Rattle.image.specs.Image.{phase_of, status_of, solve_of, step_of};
 
+use image::kinds::status_of;
 use image::places::{DONE, LEAST, STATUS};
 use image_moves::{end, stop};
-use image_puts::note_end;
-use panoc_core::panoc_cache::{ExitStatus, Phase, Reply};
+use panoc_core::outcome::Refusal;
+use panoc_core::panoc_cache::{
+    ExitStatus, InnerIterations, Outcome, Phase, Reply, SolverStatus,
+};
 
 // The end that stands for a step after which left more may begin.
 pub fn standing(left: usize, in_time: bool) -> ExitStatus
@@ -28,14 +31,19 @@ pub fn standing(left: usize, in_time: bool) -> ExitStatus
 }
 
 // The last COST is x; the plan stays in the best half step.
-pub fn on_last_cost(x: f64, w: &mut [u32; 6], k: &mut [usize; 6], f: &mut [f64; 13]) -> u32
-    requires { (Sound (solve_of w.old k.old f.old)) × (phase_of (get_or w.old 0 0) ≡ Phase.LastCost) }
-    ensures { (b : Board) → Takes (solve_of w.old k.old f.old) b (Reply.Number x) [] (step_of result w.new k.new f.new) b }
+pub fn on_last_cost(x: f64, w: &mut [u32; 6], k: &[usize; 6], f: &[f64; 13]) -> Outcome
+    requires { (Sound (solve_of w.old k.now f.now)) × (phase_of (get_or w.old 0 0) ≡ Phase.LastCost) }
+    ensures { (b : Board) → Takes (solve_of w.old k.now f.now) b (Reply.Number x) [] (step_of result w.new k.now f.now) b }
 {
     if numeric::is_finite(x) {
-        note_end(k[DONE], f[LEAST], x, k, f);
-        end(w[STATUS], w)
+        let status = SolverStatus {
+            exit_status: status_of(w[STATUS]),
+            iterations: InnerIterations(k[DONE]),
+            norm_fpr: f[LEAST],
+            cost_value: x,
+        };
+        end(status, w)
     } else {
-        stop(16, w)
+        stop(Refusal::LastCost, w)
     }
 }

@@ -9,10 +9,11 @@ use image::places::{COST, N, NORM_H};
 use image_moves::{ask, stop};
 use image_puts::{put_cost, put_gammas, put_norm_h};
 use panoc_core::lipschitz_estimator::{both_finite, gamma_of, sigma_of};
-use panoc_core::panoc_cache::{Phase, Question, Reply};
+use panoc_core::outcome::Refusal;
+use panoc_core::panoc_cache::{Outcome, Phase, Question, Reply};
 
 // COST at u is x.
-pub fn on_cost(x: f64, w: &mut [u32; 6], k: &[usize; 6], f: &mut [f64; 13]) -> u32
+pub fn on_cost(x: f64, w: &mut [u32; 6], k: &[usize; 6], f: &mut [f64; 13]) -> Outcome
     requires { (Sound (solve_of w.old k.now f.old)) × (phase_of (get_or w.old 0 0) ≡ Phase.Cost) }
     ensures { (b : Board) → Takes (solve_of w.old k.now f.old) b (Reply.Number x) [] (step_of result w.new k.now f.new) b }
 {
@@ -28,7 +29,7 @@ pub fn on_gradient(
     f: &mut [f64; 13],
     u: &mut [f64; 64],
     gradient: &mut [f64; 64],
-) -> u32
+) -> Outcome
     requires { (Sound (solve_of w.old k.now f.old)) × (phase_of (get_or w.old 0 0) ≡ Phase.Gradient) × (length v.now ≡ get_or k.now 3 0) }
     ensures { (b : Board) → Takes (solve_of w.old k.now f.old) (set_u u.old b) Reply.Vector v.now (step_of result w.new k.now f.new) (set_u u.new (set_gradient gradient.new b)) }
 {
@@ -47,7 +48,7 @@ pub fn on_shifted(
     u: &[f64; 64],
     gradient: &[f64; 64],
     step: &mut [f64; 64],
-) -> u32
+) -> Outcome
     requires { (Sound (solve_of w.old k.now f.old)) × (phase_of (get_or w.old 0 0) ≡ Phase.Shifted) × (length v.now ≡ get_or k.now 3 0) }
     ensures { (b : Board) → Takes (solve_of w.old k.now f.old) (set_u u.now (set_gradient gradient.now (set_step step.old b))) Reply.Vector v.now (step_of result w.new k.now f.new) (set_u u.now (set_gradient gradient.now (set_step step.new b))) }
 {
@@ -62,6 +63,6 @@ pub fn on_shifted(
         put_gammas(lipschitz, gamma, sigma, f);
         ask(Phase::Project, Question::Project, w)
     } else {
-        stop(10, w)
+        stop(Refusal::FirstCost, w)
     }
 }

@@ -14,7 +14,8 @@ ghost use Rattle.image.specs.Image.{solve_of, step_of};
 use image::places::{AKKT, GAMMA, HAS_AKKT, LEAST, N, NORM, TOLERANCE};
 use image_moves::{ask, stop};
 use image_puts::put_norms;
-use panoc_core::panoc_cache::{Phase, Question, cache_best_half_step};
+use panoc_core::outcome::Refusal;
+use panoc_core::panoc_cache::{Outcome, Phase, Question, cache_best_half_step};
 
 // step.
 pub fn finish(
@@ -25,7 +26,7 @@ pub fn finish(
     u: &[f64; 64],
     half: &[f64; 64],
     best: &mut [f64; 64],
-) -> u32
+) -> Outcome
     requires { (Sound (solve_of w.old k.now f.old)) × (norm ≡ Sums.norm binary64 (minus binary64 (firsts (get_or k.now 3 0) u.now) (firsts (get_or k.now 3 0) half.now))) }
     ensures { (b : Board) → Finishes (solve_of w.old k.now f.old) (set_u u.now (set_half half.now (set_best best.old b))) (step_of result w.new k.now f.new) (set_u u.now (set_half half.now (set_best best.new b))) }
 {
@@ -35,7 +36,7 @@ pub fn finish(
     if matrix_operations::is_finite(u, n) {
         ask(Phase::LastCost, Question::Cost, w)
     } else {
-        stop(15, w)
+        stop(Refusal::Plan, w)
     }
 }
 

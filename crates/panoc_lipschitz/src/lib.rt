@@ -13,10 +13,10 @@ use image::places::{FORGET, GAMMA, LIPSCHITZ, N, RHS, ROUNDS, SIGMA};
 use image_moves::ask;
 use image_puts::{put_gammas, put_rounds};
 use panoc_core::lipschitz_estimator::{exceeds, sigma_of};
-use panoc_core::panoc_cache::{Phase, Question};
+use panoc_core::panoc_cache::{Outcome, Phase, Question};
 
 // σ again, and DIRECTION, which says whether to forget.
-pub fn ask_direction(w: &mut [u32; 6], k: &[usize; 6], f: &mut [f64; 13]) -> u32
+pub fn ask_direction(w: &mut [u32; 6], k: &[usize; 6], f: &mut [f64; 13]) -> Outcome
     requires { Sound (solve_of w.old k.now f.old) }
     ensures { (b : Board) → Comes (solve_of w.old k.now f.old).set (I.ask_direction binary64 (set_of (solve_of w.old k.now f.old)) (end_of (solve_of w.old k.now f.old)) (next_at (solve_of w.old k.now f.old)) (flag_of (get_or w.old 3 0)) (state_at (solve_of w.old k.now f.old) b)) (step_of result w.new k.now f.new) b }
 {
@@ -34,7 +34,7 @@ pub fn update_lipschitz_constant(
     u: &[f64; 64],
     gradient: &[f64; 64],
     step: &mut [f64; 64],
-) -> u32
+) -> Outcome
     requires { Sound (solve_of w.old k.old f.old) }
     ensures { (b : Board) → Comes (solve_of w.old k.old f.old).set (doubling_at (set_of (solve_of w.old k.old f.old)) (end_of (solve_of w.old k.old f.old)) (next_at (solve_of w.old k.old f.old)) (solve_of w.old k.old f.old).rounds (solve_of w.old k.old f.old).forget (solve_of w.old k.old f.old).numbers.rhs_ls (state_at (solve_of w.old k.old f.old) (set_u u.now (set_gradient gradient.now (set_step step.old b)))) cost) (step_of result w.new k.new f.new) (set_u u.now (set_gradient gradient.now (set_step step.new b))) }
 {

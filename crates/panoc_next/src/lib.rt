@@ -8,7 +8,7 @@ ghost use Rattle.image.specs.Image.{solve_of, step_of};
 use image::places::{DONE, LEFT, LIMITED};
 use image_moves::ask;
 use image_puts::{put_status, put_steps};
-use panoc_core::panoc_cache::{ExitStatus, Phase, Question};
+use panoc_core::panoc_cache::{ExitStatus, Outcome, Phase, Question};
 use panoc_ends::standing;
 use panoc_finish::finish;
 use panoc_step::step;
@@ -26,7 +26,7 @@ pub fn next_step(
     half: &[f64; 64],
     fpr: &[f64; 64],
     best: &mut [f64; 64],
-) -> u32
+) -> Outcome
     requires { (Sound (solve_of w.old k.old f.old)) × (Residual (get_or k.old 3 0) u.now half.now gradient.now fpr.now norm product) }
     ensures { (b : Board) → Laps (solve_of w.old k.old f.old) (six u.now gradient.now previous.old half.now fpr.now best.old b) (step_of result w.new k.new f.new) (six u.now gradient.now previous.new half.now fpr.now best.new b) }
 {

@@ -9,7 +9,7 @@ ghost use Rattle.image.specs.Image.{solve_of, step_of};
 
 use image::kinds::phase_of;
 use image::places::PHASE;
-use panoc_core::panoc_cache::{Phase, Reply};
+use panoc_core::panoc_cache::{Outcome, Phase, Reply};
 use panoc_doubling::{on_doubled_cost, on_half_cost};
 use panoc_ends::on_last_cost;
 use panoc_estimate::on_cost;
@@ -27,7 +27,7 @@ pub fn on_number(
     step: &mut [f64; 64],
     half: &[f64; 64],
     fpr: &mut [f64; 64],
-) -> u32
+) -> Outcome
     requires { wanted_of (solve_of w.old k.old f.old) ≡ some Kind.number }
     ensures { (b : Board) → Takes (solve_of w.old k.old f.old) (five u.now gradient.now step.old half.now fpr.old b) (Reply.Number x) [] (step_of result w.new k.new f.new) (five u.now gradient.now step.new half.now fpr.new b) }
 {

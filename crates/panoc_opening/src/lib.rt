@@ -7,7 +7,7 @@ ghost use Rattle.image.specs.Image.{phase_of, solve_of, step_of};
 
 use image::places::{MAX_ITER, N, NORM};
 use image_puts::{put_norms, put_status, put_steps};
-use panoc_core::panoc_cache::{ExitStatus, Phase, Reply};
+use panoc_core::panoc_cache::{ExitStatus, Outcome, Phase, Reply};
 use panoc_step::step;
 
 // PROJECT of the first gradient step gave v: no best half step yet, no step done, the previous gradient zeros; then the first step.
@@ -22,7 +22,7 @@ pub fn on_project(
     half: &mut [f64; 64],
     fpr: &mut [f64; 64],
     best: &mut [f64; 64],
-) -> u32
+) -> Outcome
     requires { (Sound (solve_of w.old k.old f.old)) × (phase_of (get_or w.old 0 0) ≡ Phase.Project) × (length v.now ≡ get_or k.old 3 0) }
     ensures { (b : Board) → Takes (solve_of w.old k.old f.old) (six u.now gradient.now previous.old half.old fpr.old best.old b) Reply.Vector v.now (step_of result w.new k.new f.new) (six u.now gradient.now previous.new half.new fpr.new best.new b) }
 {

@@ -8,7 +8,7 @@ ghost use Rattle.image.specs.Image.{phase_of, solve_of, step_of};
 use image::places::{COST, GAMMA, N, RHS, ROUNDS};
 use panoc_candidate::take_candidate;
 use panoc_core::lipschitz_estimator::envelope;
-use panoc_core::panoc_cache::{Phase, Reply};
+use panoc_core::panoc_cache::{Outcome, Phase, Reply};
 use panoc_search::{try_again, worse};
 use panoc_steps::onward;
 
@@ -24,7 +24,7 @@ pub fn on_first_project(
     half: &mut [f64; 64],
     fpr: &mut [f64; 64],
     best: &mut [f64; 64],
-) -> u32
+) -> Outcome
     requires { (Sound (solve_of w.old k.old f.old)) × (phase_of (get_or w.old 0 0) ≡ Phase.FirstProject) × (length v.now ≡ get_or k.old 3 0) }
     ensures { (b : Board) → Takes (solve_of w.old k.old f.old) (six u.now gradient.now previous.old half.old fpr.old best.old b) Reply.Vector v.now (step_of result w.new k.new f.new) (six u.now gradient.now previous.new half.new fpr.new best.new b) }
 {
@@ -60,7 +60,7 @@ pub fn on_tried_project(
     fpr: &mut [f64; 64],
     direction: &[f64; 64],
     best: &mut [f64; 64],
-) -> u32
+) -> Outcome
     requires { (Sound (solve_of w.old k.old f.old)) × (phase_of (get_or w.old 0 0) ≡ Phase.TriedProject) × (length v.now ≡ get_or k.old 3 0) }
     ensures { Takes (solve_of w.old k.old f.old) (nine u.old plus.old gradient.now previous.old step.now half.old fpr.old direction.now best.old) Reply.Vector v.now (step_of result w.new k.new f.new) (nine u.new plus.new gradient.now previous.new step.now half.new fpr.new direction.now best.new) }
 {

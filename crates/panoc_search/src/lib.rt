@@ -14,7 +14,8 @@ use image::places::{COST, GAMMA, N, NORM, RHS, ROUNDS, SIGMA, TAU};
 use image_moves::{ask, stop};
 use image_puts::{put_cost, put_rounds, put_search};
 use panoc_core::lipschitz_estimator::envelope;
-use panoc_core::panoc_cache::{Phase, Question, Reply};
+use panoc_core::outcome::Refusal;
+use panoc_core::panoc_cache::{Outcome, Phase, Question, Reply};
 
 // A later step's move begins: what a candidate is held to, and the candidate for τ = 1.
 pub fn linesearch(
@@ -29,7 +30,7 @@ pub fn linesearch(
     half: &[f64; 64],
     fpr: &[f64; 64],
     direction: &mut [f64; 64],
-) -> u32
+) -> Outcome
     requires { (Sound (solve_of w.old k.old f.old)) × (length v.now ≡ get_or k.old 3 0) }
     ensures { (b : Board) → Comes (solve_of w.old k.old f.old).set (I.search binary64 (set_of (solve_of w.old k.old f.old)) (end_of (solve_of w.old k.old f.old)) (next_at (solve_of w.old k.old f.old)) (state_at (solve_of w.old k.old f.old) (seven u.now plus.old gradient.now step.now half.now fpr.now direction.old b)) v.now) (step_of result w.new k.new f.new) (seven u.now plus.new gradient.now step.now half.now fpr.now direction.new b) }
 {
@@ -47,7 +48,7 @@ pub fn linesearch(
 }
 
 // COST at a candidate is x.
-pub fn on_tried_cost(x: f64, w: &mut [u32; 6], k: &[usize; 6], f: &mut [f64; 13]) -> u32
+pub fn on_tried_cost(x: f64, w: &mut [u32; 6], k: &[usize; 6], f: &mut [f64; 13]) -> Outcome
     requires { (Sound (solve_of w.old k.now f.old)) × (phase_of (get_or w.old 0 0) ≡ Phase.TriedCost) }
     ensures { (b : Board) → Takes (solve_of w.old k.now f.old) b (Reply.Number x) [] (step_of result w.new k.now f.new) b }
 {
@@ -64,7 +65,7 @@ pub fn on_tried_gradient(
     plus: &[f64; 64],
     gradient: &mut [f64; 64],
     step: &mut [f64; 64],
-) -> u32
+) -> Outcome
     requires { (Sound (solve_of w.old k.now f.now)) × (phase_of (get_or w.old 0 0) ≡ Phase.TriedGradient) × (length v.now ≡ get_or k.now 3 0) }
     ensures { (b : Board) → Takes (solve_of w.old k.now f.now) (set_plus plus.now (set_gradient gradient.old (set_step step.old b))) Reply.Vector v.now (step_of result w.new k.now f.now) (set_plus plus.now (set_gradient gradient.new (set_step step.new b))) }
 {
@@ -72,7 +73,7 @@ pub fn on_tried_gradient(
     if finite & numeric::is_finite(f[COST]) {
         ask(Phase::TriedProject, Question::Project, w)
     } else {
-        stop(14, w)
+        stop(Refusal::Candidate, w)
     }
 }
 
@@ -92,7 +93,7 @@ pub fn try_again(
     plus: &mut [f64; 64],
     fpr: &[f64; 64],
     direction: &[f64; 64],
-) -> u32
+) -> Outcome
     requires { (Sound (solve_of w.old k.old f.old)) × (get_or k.old 2 0 ≡ 0 → ⊥) }
     ensures { (b : Board) → Comes (solve_of w.old k.old f.old).set (retry_of (run_of (solve_of w.old k.old f.old) (set_u u.now (set_fpr fpr.now (set_direction direction.now b)))) (firsts (get_or k.old 3 0) plus.old) (state_at (solve_of w.old k.old f.old) (set_u u.now (set_fpr fpr.now (set_direction direction.now b))))) (step_of result w.new k.new f.new) (set_u u.now (set_plus plus.new (set_fpr fpr.now (set_direction direction.now b)))) }
 {

@@ -38,8 +38,8 @@ started s us e = by (ltb 0 s.n) (leb s.n 64) refl (eqb us s.n) refl (ltb 0 s.max
     by false b p c q d f r g w = absurd (omega arith)
 
 module _ (s : Settings) (us : List Float) (m : ℕ) (e : m ≡ inner_refusal (settings_of s) (length us)) (b : Board) where
-  pub start_runs : m ≡ 0 → firsts (length us) b.u ≡ us → Begins s us (record { outcome = O.Asked Q.Cost; solve = begun s }) b
-  unfolding start_inner or_refused said I.solve
+  pub start_runs : m ≡ 0 → firsts (length us) b.u ≡ us → Begins s us (record { outcome = O.Asked Q.Cost; state = begun s }) b
+  unfolding start_inner or_refused O.said I.solve
   start_runs z f =
       let e₀ : inner_refusal (settings_of s) (length us) ≡ 0 = sym e ∙ z in
       let ok = started s (length us) e₀ in
@@ -48,7 +48,7 @@ module _ (s : Settings) (us : List Float) (m : ℕ) (e : m ≡ inner_refusal (se
       record { settings = refl; outcome = sym (ap said run≡); process = begun_rest s b us ok.0 ok.2 u≡ ∙ sym (ap remains run≡) }
 
   pub start_refuses : (r : Step) → (m ≡ 0 → ⊥) → r ≡ stepped (O.Refused m) P.Over (begun s) → Begins s us r b
-  unfolding start_inner or_refused said remains
+  unfolding start_inner or_refused O.said remains
   start_refuses r z w = subst (λ (q : Step). Begins s us q b) (sym w) (by m e z)
     where
       by : (k : ℕ) → k ≡ inner_refusal (settings_of s) (length us) → (k ≡ 0 → ⊥) → Begins s us (stepped (O.Refused k) P.Over (begun s)) b
@@ -57,11 +57,8 @@ module _ (s : Settings) (us : List Float) (m : ℕ) (e : m ≡ inner_refusal (se
           let run≡ : start_inner binary64 (settings_of s) us ≡ stop (refused (suc k)) = ap (λ (n : ℕ). or_refused n (I.solve binary64 (settings_of s) us)) (sym i) in
           record { settings = refl; outcome = sym (ap said run≡); process = rest_over _ refl ∙ sym (ap remains run≡) }
 
-pub start_same : (s : Settings) (us : List Float) (t t' : Solve) (b : Board) → t ≡ t' → Begins s us (record { outcome = O.Asked Q.Cost; solve = t' }) b → Begins s us (record { outcome = O.Asked Q.Cost; solve = t }) b
-start_same s us t t' b e w = subst (λ (z : Solve). Begins s us (record { outcome = O.Asked Q.Cost; solve = z }) b) (sym e) w
-
-pub start_stops : {s : Settings} {t : Solve} {k : ℕ} {r : Step} → t ≡ begun s → r ≡ stepped (O.Refused k) P.Over t → r ≡ stepped (O.Refused k) P.Over (begun s)
-start_stops {s} {t} {k} {r} e w = w ∙ ap (stepped (O.Refused k) P.Over) e
+pub start_same : (s : Settings) (us : List Float) (t t' : Solve) (b : Board) → t ≡ t' → Begins s us (record { outcome = O.Asked Q.Cost; state = t' }) b → Begins s us (record { outcome = O.Asked Q.Cost; state = t }) b
+start_same s us t t' b e w = subst (λ (z : Solve). Begins s us (record { outcome = O.Asked Q.Cost; state = z }) b) (sym e) w
 
 pub starts : (s : Settings) (us : List Float) (r : Step) (w : List Float) → ((b : Board) → Begins s us r (set_u w b)) → (b : Board) → Starts s us (gave r (set_u w b))
 starts s us r w f b = record { settings = (f b).settings; outcome = (f b).outcome; process = (f b).process }

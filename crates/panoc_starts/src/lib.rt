@@ -4,31 +4,33 @@
 ghost use Rattle.std.specs.Prelude.{◌≡◌};
 ghost use Rattle.model.specs.Refusals as R;
 ghost use Rattle.panoc_core.specs.Values.{akkt_of, settings_of};
+ghost use Rattle.panoc_core.specs.Told.{number_of, told, answered};
 ghost use Rattle.panoc_core.specs.Board.{Board, set_u, Begins, begun};
 ghost use Rattle.panoc_core.specs.Calls.{Starts};
 
+use panoc_core::outcome::Refusal;
 use panoc_core::panoc_cache::{
     Answered, ExitStatus, InnerIterations, Numbers, Outcome, Phase, Question, Run, Settings, Solve,
-    Stepped, stops,
+    Stepped, at_phase,
 };
 use start_numbers::{limit_right, tolerance_right};
 use start_sizes::sizes_right;
 
-// The number of the start's refusal, 1, 3 or 4, and 0 for none; us is the length of the lent u.
+// Why a start is refused: 1, 3 or 4 of the table; us is the length of the lent u.
 #[tactic(auto, unfolding(model::specs::Refusals::inner_refusal, model::specs::Refusals::unless))]
-pub fn start_refusal(set: Settings, us: usize) -> u32
-    ensures { result ≡ R.inner_refusal (settings_of set) us }
+pub fn start_refusal(set: Settings, us: usize) -> Option<Refusal>
+    ensures { number_of result ≡ R.inner_refusal (settings_of set) us }
 {
     if !sizes_right(set.n, us) {
-        return 1;
+        return Some(Refusal::Sizes);
     }
     if !limit_right(10000, set.max_iter) {
-        return 3;
+        return Some(Refusal::Limits);
     }
     if tolerance_right(set.tolerance) && akkt_right(set.akkt_tolerance) {
-        0
+        None
     } else {
-        4
+        Some(Refusal::Tolerances)
     }
 }
 
@@ -72,30 +74,33 @@ pub fn begin(set: Settings) -> Solve
 
 // A run in place that is begun at first, or its refusal.
 pub fn start_in_place(set: Settings, first: &[f64], u: &mut [f64; 64]) -> Stepped
-    ensures { (b : Board) → Begins set first.now result (set_u u.new b) }
+    ensures { (b : Board) → Begins set first.now (told result) (set_u u.new b) }
 {
-    let number = start_refusal(set, first.len());
     let solve = begin(set);
-    if number == 0 {
-        vector_copies::take_into(first, u);
-        Stepped {
-            outcome: Outcome::Asked(Question::Cost),
-            solve,
+    match start_refusal(set, first.len()) {
+        None => {
+            vector_copies::take_into(first, u);
+            Stepped {
+                outcome: Outcome::Asked(Question::Cost),
+                state: solve,
+            }
         }
-    } else {
-        stops(solve, number)
+        Some(refusal) => Stepped {
+            outcome: Outcome::Refused(refusal),
+            state: at_phase(solve, Phase::Over),
+        },
     }
 }
 
 // A run by value that is begun at u, or its refusal.
 pub fn start(set: Settings, u: &[f64]) -> Answered
-    ensures { Starts set u.now result }
+    ensures { Starts set u.now (answered result) }
 {
     let mut v = vector_copies::zeros();
     let r = start_in_place(set, u, &mut v);
     let zeros = vector_copies::zeros();
     let run = Run {
-        solve: r.solve,
+        solve: r.state,
         u: v,
         u_plus: zeros,
         gradient_u: zeros,

@@ -9,7 +9,7 @@ use image::places::{COST, DONE, GAMMA, LEAST, N, TAU};
 use image_moves::ask;
 use image_puts::{put_norms, put_search};
 use panoc_core::lipschitz_estimator::lipschitz_check_rhs;
-use panoc_core::panoc_cache::{Phase, Question, cache_best_half_step, cache_previous_gradient};
+use panoc_core::panoc_cache::{Outcome, Phase, Question, cache_best_half_step, cache_previous_gradient};
 use panoc_finish::{exit_condition, finish};
 
 // A step, from the residual with its norm and its product with the gradient: the previous gradient, the score, and the tests. What the
@@ -26,7 +26,7 @@ pub fn step(
     half: &[f64; 64],
     fpr: &[f64; 64],
     best: &mut [f64; 64],
-) -> u32
+) -> Outcome
     requires { (Sound (solve_of w.old k.now f.old)) × (Residual (get_or k.now 3 0) u.now half.now gradient.now fpr.now norm product) }
     ensures { (b : Board) → Steps (solve_of w.old k.now f.old) (six u.now gradient.now previous.old half.now fpr.now best.old b) (step_of result w.new k.now f.new) (six u.now gradient.now previous.new half.now fpr.now best.new b) }
 {

@@ -7,7 +7,7 @@ ghost use Rattle.image.specs.Image.{solve_of, step_of};
 
 use image::places::{LEFT, N, STATUS};
 use image_puts::put_status;
-use panoc_core::panoc_cache::ExitStatus;
+use panoc_core::panoc_cache::{ExitStatus, Outcome};
 use panoc_ends::standing;
 use panoc_finish::finish;
 use panoc_next::next_step;
@@ -25,7 +25,7 @@ pub fn timed(
     half: &[f64; 64],
     fpr: &mut [f64; 64],
     best: &mut [f64; 64],
-) -> u32
+) -> Outcome
     requires { Sound (solve_of w.old k.now f.old) }
     ensures { (b : Board) → Times (solve_of w.old k.now f.old) in_time (six u.now gradient.now previous.old half.now fpr.old best.old b) (step_of result w.new k.now f.new) (six u.now gradient.now previous.new half.now fpr.new best.new b) }
 {
@@ -59,7 +59,7 @@ pub fn onward(
     half: &[f64; 64],
     fpr: &[f64; 64],
     best: &mut [f64; 64],
-) -> u32
+) -> Outcome
     requires { (Sound (solve_of w.old k.old f.old)) × (Residual (get_or k.old 3 0) u.now half.now gradient.now fpr.now norm product) }
     ensures { (b : Board) → Onward (solve_of w.old k.old f.old) (six u.now gradient.now previous.old half.now fpr.now best.old b) (step_of result w.new k.new f.new) (six u.now gradient.now previous.new half.now fpr.now best.new b) }
 {

@@ -18,4 +18,4 @@ pub returns-then-is_finite : goal.returns-then-is_finite
 returns-then-is_finite c = λ b. doubled_cost_goes (solve_of c.args.w.now c.args.k.now c.args.f.now) (set_u c.args.u.now (set_gradient c.args.gradient.now (set_step c.args.step.now (set_half c.args.half.now (set_fpr c.args.fpr.now b))))) c.requires.0 _ _ _ _ _ _ _ c.requires.1 (sym c.is_finite.ensures ∙ c.if-is_finite.true) c.residual_into-sums.ensures.left c.residual_into-sums.ensures.size c.residual_into-sums.ensures.product c.lipschitz_check_rhs-rhs.ensures (doubled_doubles c.args.w.now _ c.args.k.now c.args.f.now (set_u c.args.u.now (set_gradient c.args.gradient.now (set_step c.args.step.now (set_half c.args.half.now (set_fpr _ b))))) _ _ _ _ _ _ _ c.put_forget.ensures c.put_norms.ensures c.put_search.ensures (c.update_lipschitz_constant.ensures (set_half c.args.half.now (set_fpr _ b))))
 
 pub returns-else-is_finite : goal.returns-else-is_finite
-returns-else-is_finite c = λ b. doubled_cost_stops (solve_of c.args.w.now c.args.k.now c.args.f.now) (set_u c.args.u.now (set_gradient c.args.gradient.now (set_step c.args.step.now (set_half c.args.half.now (set_fpr c.args.fpr.now b))))) c.requires.0 _ _ _ c.requires.1 (sym c.is_finite.ensures ∙ c.if-is_finite.false) (step_as _ _ _ _ c.args.k.now c.args.k.now c.args.f.now c.args.f.now c.stop.ensures.kind c.stop.ensures.told refl refl)
+returns-else-is_finite c = λ b. doubled_cost_stops (solve_of c.args.w.now c.args.k.now c.args.f.now) (set_u c.args.u.now (set_gradient c.args.gradient.now (set_step c.args.step.now (set_half c.args.half.now (set_fpr c.args.fpr.now b))))) c.requires.0 _ _ _ c.requires.1 (sym c.is_finite.ensures ∙ c.if-is_finite.false) (step_as _ _ _ _ c.args.k.now c.args.k.now c.args.f.now c.args.f.now c.stop.ensures.outcome c.stop.ensures.moved refl refl)

@@ -9,4 +9,4 @@ pub take_into-requires : goal.take_into-requires
 take_into-requires c = omega (arith, sound_n (solve_of c.args.w.now c.args.k.now c.args.f.now) c.requires.0, c.requires.2)
 
 pub returns : goal.returns
-returns c = λ b. doubled_project_goes (solve_of c.args.w.now c.args.k.now c.args.f.now) (set_half c.args.half.now b) c.requires.0 _ _ _ c.requires.1 c.requires.2 c.take_into.ensures (step_as _ _ _ _ c.args.k.now c.args.k.now c.args.f.now c.args.f.now c.ask.ensures.kind c.ask.ensures.told refl refl)
+returns c = λ b. doubled_project_goes (solve_of c.args.w.now c.args.k.now c.args.f.now) (set_half c.args.half.now b) c.requires.0 _ _ _ c.requires.1 c.requires.2 c.take_into.ensures (step_as _ _ _ _ c.args.k.now c.args.k.now c.args.f.now c.args.f.now c.ask.ensures.outcome c.ask.ensures.moved refl refl)

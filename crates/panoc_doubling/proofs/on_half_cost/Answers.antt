@@ -15,4 +15,4 @@ pub returns-then-is_finite : goal.returns-then-is_finite
 returns-then-is_finite c = λ b. half_goes (solve_of c.args.w.now c.args.k.now c.args.f.now) (set_u c.args.u.now (set_gradient c.args.gradient.now (set_step c.args.step.now b))) c.requires.0 _ _ _ c.requires.1 (sym c.is_finite.ensures ∙ c.if-is_finite.true) (half_doubles c.args.w.now _ c.args.k.now c.args.f.now (set_u c.args.u.now (set_gradient c.args.gradient.now (set_step c.args.step.now b))) _ _ _ _ _ c.put_forget.ensures refl c.put_rounds.ensures (c.update_lipschitz_constant.ensures b))
 
 pub returns-else-is_finite : goal.returns-else-is_finite
-returns-else-is_finite c = λ b. half_stops (solve_of c.args.w.now c.args.k.now c.args.f.now) (set_u c.args.u.now (set_gradient c.args.gradient.now (set_step c.args.step.now b))) c.requires.0 _ _ _ c.requires.1 (sym c.is_finite.ensures ∙ c.if-is_finite.false) (step_as _ _ _ _ c.args.k.now c.args.k.now c.args.f.now c.args.f.now c.stop.ensures.kind c.stop.ensures.told refl refl)
+returns-else-is_finite c = λ b. half_stops (solve_of c.args.w.now c.args.k.now c.args.f.now) (set_u c.args.u.now (set_gradient c.args.gradient.now (set_step c.args.step.now b))) c.requires.0 _ _ _ c.requires.1 (sym c.is_finite.ensures ∙ c.if-is_finite.false) (step_as _ _ _ _ c.args.k.now c.args.k.now c.args.f.now c.args.f.now c.stop.ensures.outcome c.stop.ensures.moved refl refl)

@@ -11,4 +11,4 @@ pub shift_into-norm_h-requires : goal.shift_into-norm_h-requires
 shift_into-norm_h-requires c = sound_n (solve_of c.args.w.now c.args.k.now c.args.f.now) c.requires.0
 
 pub returns : goal.returns
-returns c = λ b. rw (c.ask.ensures.kind, c.ask.ensures.told, c.put_norm_h.ensures) (gradient_goes (solve_of c.args.w.now c.args.k.now c.args.f.now) (set_u c.args.u.now b) c.requires.0 _ _ _ _ _ c.requires.1 c.requires.2 c.take_into.ensures c.shift_into-norm_h.ensures.left c.shift_into-norm_h.ensures.size refl)
+returns c = λ b. rw (c.ask.ensures.outcome, c.ask.ensures.moved, c.put_norm_h.ensures) (gradient_goes (solve_of c.args.w.now c.args.k.now c.args.f.now) (set_u c.args.u.now b) c.requires.0 _ _ _ _ _ c.requires.1 c.requires.2 c.take_into.ensures c.shift_into-norm_h.ensures.left c.shift_into-norm_h.ensures.size refl)

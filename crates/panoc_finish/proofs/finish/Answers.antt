@@ -11,7 +11,7 @@ pub is_finite-requires : goal.is_finite-requires
 is_finite-requires c = sound_n (solve_of c.args.w.now c.args.k.now c.args.f.now) c.requires.0
 
 pub returns-then-is_finite : goal.returns-then-is_finite
-returns-then-is_finite c = λ b. rw (c.ask.ensures.kind, c.ask.ensures.told, c.put_norms.ensures) (finish_asks (solve_of c.args.w.now c.args.k.now c.args.f.now) (set_u c.args.u.now (set_half c.args.half.now (set_best c.args.best.now b))) c.requires.0 _ _ _ _ c.requires.1 c.cache_best_half_step-least.ensures (sym c.is_finite.ensures ∙ c.if-is_finite.true) refl)
+returns-then-is_finite c = λ b. rw (c.ask.ensures.outcome, c.ask.ensures.moved, c.put_norms.ensures) (finish_asks (solve_of c.args.w.now c.args.k.now c.args.f.now) (set_u c.args.u.now (set_half c.args.half.now (set_best c.args.best.now b))) c.requires.0 _ _ _ _ c.requires.1 c.cache_best_half_step-least.ensures (sym c.is_finite.ensures ∙ c.if-is_finite.true) refl)
 
 pub returns-else-is_finite : goal.returns-else-is_finite
-returns-else-is_finite c = λ b. rw (c.stop.ensures.kind, c.stop.ensures.told, c.put_norms.ensures) (finish_stops (solve_of c.args.w.now c.args.k.now c.args.f.now) (set_u c.args.u.now (set_half c.args.half.now (set_best c.args.best.now b))) c.requires.0 _ _ _ _ c.requires.1 c.cache_best_half_step-least.ensures (sym c.is_finite.ensures ∙ c.if-is_finite.false) refl)
+returns-else-is_finite c = λ b. rw (c.stop.ensures.outcome, c.stop.ensures.moved, c.put_norms.ensures) (finish_stops (solve_of c.args.w.now c.args.k.now c.args.f.now) (set_u c.args.u.now (set_half c.args.half.now (set_best c.args.best.now b))) c.requires.0 _ _ _ _ c.requires.1 c.cache_best_half_step-least.ensures (sym c.is_finite.ensures ∙ c.if-is_finite.false) refl)

@@ -12,7 +12,7 @@ pub linesearch-requires : goal.linesearch-requires
 linesearch-requires c = (c.requires.0, c.requires.2)
 
 pub returns-then-k-eq0 : goal.returns-then-k-eq0
-returns-then-k-eq0 c = λ b. direction_first (solve_of c.args.w.now c.args.k.now c.args.f.now) (seven c.args.u.now c.args.plus.now c.args.gradient.now c.args.step.now c.args.half.now c.args.fpr.now c.args.direction.now b) c.requires.0 _ _ _ _ _ c.requires.1 c.if-k-eq0.true c.copy_into.ensures (step_as _ _ _ _ c.args.k.now c.args.k.now c.args.f.now c.args.f.now c.ask.ensures.kind c.ask.ensures.told refl refl)
+returns-then-k-eq0 c = λ b. direction_first (solve_of c.args.w.now c.args.k.now c.args.f.now) (seven c.args.u.now c.args.plus.now c.args.gradient.now c.args.step.now c.args.half.now c.args.fpr.now c.args.direction.now b) c.requires.0 _ _ _ _ _ c.requires.1 c.if-k-eq0.true c.copy_into.ensures (step_as _ _ _ _ c.args.k.now c.args.k.now c.args.f.now c.args.f.now c.ask.ensures.outcome c.ask.ensures.moved refl refl)
 
 pub returns-else-k-eq0 : goal.returns-else-k-eq0
 returns-else-k-eq0 c = λ b. direction_later (solve_of c.args.w.now c.args.k.now c.args.f.now) (seven c.args.u.now c.args.plus.now c.args.gradient.now c.args.step.now c.args.half.now c.args.fpr.now c.args.direction.now b) c.requires.0 _ _ _ c.requires.1 c.if-k-eq0.false (c.linesearch.ensures b)

@@ -15,7 +15,7 @@ pub less_times_into-requires : goal.less_times_into-requires
 less_times_into-requires c = sound_n (solve_of c.args.w.now c.args.k.now c.args.f.now) c.requires
 
 pub returns-then-exceeds : goal.returns-then-exceeds
-returns-then-exceeds c = λ b. doubling_goes (solve_of c.args.w.now c.args.k.now c.args.f.now) (set_u c.args.u.now (set_gradient c.args.gradient.now (set_step c.args.step.now b))) c.requires _ _ _ _ _ _ (omega (arith, c.if-rounds-eq0.false)) (sym c.exceeds.ensures ∙ c.if-exceeds.true) (ap (λ (z : Float). mul binary64 (get_or c.args.f.now 1 nan) z) two_bits) (ap (λ (z : Float). div binary64 (get_or c.args.f.now 2 nan) z) two_bits) c.less_times_into.ensures (step_as _ _ _ _ _ _ _ _ c.ask.ensures.kind c.ask.ensures.told c.put_rounds.ensures c.put_gammas.ensures)
+returns-then-exceeds c = λ b. doubling_goes (solve_of c.args.w.now c.args.k.now c.args.f.now) (set_u c.args.u.now (set_gradient c.args.gradient.now (set_step c.args.step.now b))) c.requires _ _ _ _ _ _ (omega (arith, c.if-rounds-eq0.false)) (sym c.exceeds.ensures ∙ c.if-exceeds.true) (ap (λ (z : Float). mul binary64 (get_or c.args.f.now 1 nan) z) two_bits) (ap (λ (z : Float). div binary64 (get_or c.args.f.now 2 nan) z) two_bits) c.less_times_into.ensures (step_as _ _ _ _ _ _ _ _ c.ask.ensures.outcome c.ask.ensures.moved c.put_rounds.ensures c.put_gammas.ensures)
 
 pub returns : goal.returns
 returns c = λ b. doubling_stays (solve_of c.args.w.now c.args.k.now c.args.f.now) (set_u c.args.u.now (set_gradient c.args.gradient.now (set_step c.args.step.now b))) c.requires _ _ _ c.if-rounds-eq0.false (sym c.exceeds.ensures ∙ c.if-exceeds.false) (c.ask_direction-2.ensures (set_u c.args.u.now (set_gradient c.args.gradient.now (set_step c.args.step.now b))))

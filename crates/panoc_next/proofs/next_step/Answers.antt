@@ -20,7 +20,7 @@ pub overflow_add-done : goal.overflow_add-done
 overflow_add-done c = omega (arith, sound_left (solve_of c.args.w.now c.args.k.now c.args.f.now) c.requires.0, sound_count (solve_of c.args.w.now c.args.k.now c.args.f.now) c.requires.0)
 
 pub returns-then-w-ne0 : goal.returns-then-w-ne0
-returns-then-w-ne0 c = λ b. rw (c.ask.ensures.kind, c.ask.ensures.told, c.put_steps.ensures) (next_asks (solve_of c.args.w.now c.args.k.now c.args.f.now) (six c.args.u.now c.args.gradient.now c.args.previous.now c.args.half.now c.args.fpr.now c.args.best.now b) _ _ c.requires.0 (omega (arith, c.if-left-eq0.false)) (ap not (ne_eqb _ _ c.if-w-ne0.true)) refl)
+returns-then-w-ne0 c = λ b. rw (c.ask.ensures.outcome, c.ask.ensures.moved, c.put_steps.ensures) (next_asks (solve_of c.args.w.now c.args.k.now c.args.f.now) (six c.args.u.now c.args.gradient.now c.args.previous.now c.args.half.now c.args.fpr.now c.args.best.now b) _ _ c.requires.0 (omega (arith, c.if-left-eq0.false)) (ap not (ne_eqb _ _ c.if-w-ne0.true)) refl)
 
 pub step-requires : goal.step-requires
 unfolding sound

@@ -5,4 +5,4 @@ use Rattle.image.specs.Stored.{step_as}
 use Rattle.panoc_search.proofs.on_tried_cost.Goals as goal
 
 pub returns : goal.returns
-returns c = λ b. tried_cost_goes (solve_of c.args.w.now c.args.k.now c.args.f.now) b c.requires.0 _ _ c.requires.1 (step_as _ _ _ _ c.args.k.now c.args.k.now _ _ c.ask.ensures.kind c.ask.ensures.told refl c.put_cost.ensures)
+returns c = λ b. tried_cost_goes (solve_of c.args.w.now c.args.k.now c.args.f.now) b c.requires.0 _ _ c.requires.1 (step_as _ _ _ _ c.args.k.now c.args.k.now _ _ c.ask.ensures.outcome c.ask.ensures.moved refl c.put_cost.ensures)

@@ -12,7 +12,7 @@ pub gradient_into-finite-requires : goal.gradient_into-finite-requires
 gradient_into-finite-requires c = omega (arith, sound_n (solve_of c.args.w.now c.args.k.now c.args.f.now) c.requires.0, c.requires.2)
 
 pub returns-then-finite-is_finite : goal.returns-then-finite-is_finite
-returns-then-finite-is_finite c = λ b. tried_gradient_goes (solve_of c.args.w.now c.args.k.now c.args.f.now) (set_plus c.args.plus.now (set_gradient c.args.gradient.now (set_step c.args.step.now b))) c.requires.0 _ _ _ _ c.requires.1 c.requires.2 c.gradient_into-finite.ensures.gradient (both_as _ _ c.requires.2 _ (get_or c.args.f.now 0 nan) _ _ _ c.gradient_into-finite.ensures.gradient c.gradient_into-finite.ensures.finite c.is_finite.ensures c.if-finite-is_finite.true) (step_of _ _ c.requires.2 _ _ _ _ c.gradient_into-finite.ensures.gradient c.gradient_into-finite.ensures.step) (step_as _ _ _ _ c.args.k.now c.args.k.now c.args.f.now c.args.f.now c.ask.ensures.kind c.ask.ensures.told refl refl)
+returns-then-finite-is_finite c = λ b. tried_gradient_goes (solve_of c.args.w.now c.args.k.now c.args.f.now) (set_plus c.args.plus.now (set_gradient c.args.gradient.now (set_step c.args.step.now b))) c.requires.0 _ _ _ _ c.requires.1 c.requires.2 c.gradient_into-finite.ensures.gradient (both_as _ _ c.requires.2 _ (get_or c.args.f.now 0 nan) _ _ _ c.gradient_into-finite.ensures.gradient c.gradient_into-finite.ensures.finite c.is_finite.ensures c.if-finite-is_finite.true) (step_of _ _ c.requires.2 _ _ _ _ c.gradient_into-finite.ensures.gradient c.gradient_into-finite.ensures.step) (step_as _ _ _ _ c.args.k.now c.args.k.now c.args.f.now c.args.f.now c.ask.ensures.outcome c.ask.ensures.moved refl refl)
 
 pub returns-else-finite-is_finite : goal.returns-else-finite-is_finite
-returns-else-finite-is_finite c = λ b. tried_gradient_stops (solve_of c.args.w.now c.args.k.now c.args.f.now) (set_plus c.args.plus.now (set_gradient c.args.gradient.now (set_step c.args.step.now b))) c.requires.0 _ _ _ _ c.requires.1 c.requires.2 c.gradient_into-finite.ensures.gradient (both_as _ _ c.requires.2 _ (get_or c.args.f.now 0 nan) _ _ _ c.gradient_into-finite.ensures.gradient c.gradient_into-finite.ensures.finite c.is_finite.ensures c.if-finite-is_finite.false) (step_as _ _ _ _ c.args.k.now c.args.k.now c.args.f.now c.args.f.now c.stop.ensures.kind c.stop.ensures.told refl refl)
+returns-else-finite-is_finite c = λ b. tried_gradient_stops (solve_of c.args.w.now c.args.k.now c.args.f.now) (set_plus c.args.plus.now (set_gradient c.args.gradient.now (set_step c.args.step.now b))) c.requires.0 _ _ _ _ c.requires.1 c.requires.2 c.gradient_into-finite.ensures.gradient (both_as _ _ c.requires.2 _ (get_or c.args.f.now 0 nan) _ _ _ c.gradient_into-finite.ensures.gradient c.gradient_into-finite.ensures.finite c.is_finite.ensures c.if-finite-is_finite.false) (step_as _ _ _ _ c.args.k.now c.args.k.now c.args.f.now c.args.f.now c.stop.ensures.outcome c.stop.ensures.moved refl refl)

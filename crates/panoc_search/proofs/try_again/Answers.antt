@@ -12,4 +12,4 @@ pub candidate_into-requires : goal.candidate_into-requires
 candidate_into-requires c = sound_n (solve_of c.args.w.now c.args.k.now c.args.f.now) c.requires.0
 
 pub returns : goal.returns
-returns c = λ b. again_asks (solve_of c.args.w.now c.args.k.now c.args.f.now) (set_u c.args.u.now (set_fpr c.args.fpr.now (set_direction c.args.direction.now b))) c.requires.0 _ _ _ _ (omega (arith, c.requires.1)) (ap (λ (z : Float). div binary64 (get_or c.args.f.now 6 nan) z) two_bits) c.candidate_into.ensures (step_as _ _ _ _ _ _ _ _ c.ask.ensures.kind c.ask.ensures.told c.put_rounds.ensures c.put_search.ensures) _
+returns c = λ b. again_asks (solve_of c.args.w.now c.args.k.now c.args.f.now) (set_u c.args.u.now (set_fpr c.args.fpr.now (set_direction c.args.direction.now b))) c.requires.0 _ _ _ _ (omega (arith, c.requires.1)) (ap (λ (z : Float). div binary64 (get_or c.args.f.now 6 nan) z) two_bits) c.candidate_into.ensures (step_as _ _ _ _ _ _ _ _ c.ask.ensures.outcome c.ask.ensures.moved c.put_rounds.ensures c.put_search.ensures) _

@@ -30,4 +30,4 @@ pub returns-in-No : goal.returns-in-No
 returns-in-No c = took_decision (solve_of c.args.w.now c.args.k.now c.args.f.now) (nine c.args.u.now c.args.plus.now c.args.gradient.now c.args.previous.now c.args.step.now c.args.half.now c.args.fpr.now c.args.direction.now c.args.best.now) _ _ _ _ false c.in-No.is (c.on_decision-in-No.ensures (nine c.args.u.now c.args.plus.now c.args.gradient.now c.args.previous.now c.args.step.now c.args.half.now c.args.fpr.now c.args.direction.now c.args.best.now))
 
 pub returns-in-Failure : goal.returns-in-Failure
-returns-in-Failure c = rw (c.fail.ensures.kind, c.fail.ensures.told) (took_failure (solve_of c.args.w.now c.args.k.now c.args.f.now) (nine c.args.u.now c.args.plus.now c.args.gradient.now c.args.previous.now c.args.step.now c.args.half.now c.args.fpr.now c.args.direction.now c.args.best.now) _ _ _ _ c.in-Failure.is (refusal_of (solve_of c.args.w.now c.args.k.now c.args.f.now) _ c.in-Failure.is c.requires) refl)
+returns-in-Failure c = rw (c.fail.ensures.outcome, c.fail.ensures.moved) (took_failure (solve_of c.args.w.now c.args.k.now c.args.f.now) (nine c.args.u.now c.args.plus.now c.args.gradient.now c.args.previous.now c.args.step.now c.args.half.now c.args.fpr.now c.args.direction.now c.args.best.now) _ _ _ _ c.in-Failure.is (refusal_of (solve_of c.args.w.now c.args.k.now c.args.f.now) _ c.in-Failure.is c.requires) refl)
