@@ -79,8 +79,8 @@ status_at w k f lk lf =
 abbrev pub outcome_of : ℕ → List ℕ → List ℕ → List Float → List ℕ → List Float → LoopSays
 outcome_of r w k f lk lf = get_or (Asked (question_of (get_or w 1 0)) ∷ Ended (status_at w k f lk lf) ∷ Refused (get_or w 1 0) ∷ []) r (Failed (get_or w 1 0))
 
-abbrev pub step_of : ℕ → List ℕ → List ℕ → List Float → List ℕ → List ℕ → List Float → LoopStep
-step_of r w k f lw lk lf = record { outcome = outcome_of r w k f lk lf; alm = alm_of w k f lw lk lf }
+abbrev pub told_of : ℕ → List ℕ → List ℕ → List Float → List ℕ → List ℕ → List Float → LoopStep
+told_of r w k f lw lk lf = record { outcome = outcome_of r w k f lk lf; state = alm_of w k f lw lk lf }
 
 -- whatever lw is, the small part stays, and o is told
 abbrev pub Tells : LoopSays → ℕ → List ℕ → List ℕ → List Float → List ℕ → List Float → List ℕ → List ℕ → List Float → List ℕ → List Float → Type 0

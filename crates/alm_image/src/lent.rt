@@ -1,6 +1,7 @@
 // The small part of a loop in lent arrays.
 ghost use Rattle.std.specs.Prelude.{◌≡◌};
 ghost use Rattle.image.specs.Image.{solve_of};
+ghost use Rattle.panoc_core.specs.Told.{numbered};
 ghost use Rattle.alm_image.specs.AlmImage.{settings_given, settings_of, numbers_of, alm_of, with_numbers, noted_outer, noted_ends, Tells};
 
 use crate::kinds::{alm_phase_number, alm_phase_of, alm_question_number};
@@ -215,7 +216,7 @@ fn note_ends(
     lf[END_PENALTY] = penalty;
 }
 
-// What a call has told, into the lent numbers; its kind is the result.
+// What a call gives, told in the lent numbers; its kind is the result.
 pub fn tell_alm(
     o: AlmOutcome,
     w: &mut [u32; 6],
@@ -224,7 +225,7 @@ pub fn tell_alm(
     lk: &mut [usize; 10],
     lf: &mut [f64; 17],
 ) -> u32
-    ensures { Tells o result w.old k.old f.old lk.old lf.old w.new k.new f.new lk.new lf.new }
+    ensures { Tells (numbered o) result w.old k.old f.old lk.old lf.old w.new k.new f.new lk.new lf.new }
 {
     match o {
         AlmOutcome::Asked(q) => {
@@ -250,8 +251,8 @@ pub fn tell_alm(
             );
             told::ENDED
         }
-        AlmOutcome::Refused(number) => {
-            note(number, w);
+        AlmOutcome::Refused(refusal) => {
+            note(refusal.number(), w);
             told::REFUSED
         }
         AlmOutcome::Failed(code) => {

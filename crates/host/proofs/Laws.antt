@@ -19,7 +19,7 @@ use Rattle.panoc_core.specs.Values.{kind_of, Gave}
 use Rattle.panoc_core.specs.Board.{Board, run_of, gave, waiting, wanted_of}
 use Rattle.panoc_core.specs.Wanted.{wanted_is}
 use Rattle.panoc_core.specs.Calls.{Answers}
-use Rattle.image.specs.Image.{solve_of, reply_of, strange, noted, step_of}
+use Rattle.image.specs.Image.{solve_of, reply_of, strange, noted, told_of}
 use Rattle.image.specs.Rounds.{strange_round}
 use Rattle.host.specs.Exports.{Exported}
 
@@ -35,9 +35,7 @@ module _ (kind : ℕ) (x : Float) (code : ℕ) (v us : List Float) (w k : List �
   strange_is waits h = ap (λ (c : Bool). cond c 7 6) h ∙ ap (λ (q : Option Kind). cond (waiting q) 7 6) (e f) ∙ strange_round (wanted_of s) ∙ ap strange (sym (wanted_is s b))
 
   -- a kind of none
-  pub malformed_as : (w' : List ℕ) (waits : Bool) (r : ℕ) → 4 < kind → waits ≡ waiting (kind_of wd) → (w' ≡ noted (cond waits 7 6) w) × (r ≡ 2)
-      → Exported kind x code v us us (run_of s b) (gave (step_of r w' k f) b)
-  malformed_as w' waits r h q n =
-      subst (λ (z : List ℕ). Exported kind x code v us us (run_of s b) (gave (step_of r z k f) b)) (sym n.0)
-      (subst (λ (z : ℕ). Exported kind x code v us us (run_of s b) (gave (step_of z (noted (cond waits 7 6) w) k f) b)) (sym n.1)
-      (record { malformed = λ i. (ap Refused (strange_is waits q), refl, refl); answered = λ i. absurd (omega arith) }))
+  pub malformed_as : (w' : List ℕ) (waits : Bool) (m r : ℕ) → 4 < kind → waits ≡ waiting (kind_of wd) → m ≡ cond waits 7 6 → (w' ≡ noted m w) × (r ≡ 2)
+      → Exported kind x code v us us (run_of s b) (gave (told_of r w' k f) b)
+  malformed_as w' waits m r h q n o =
+      rw (o.0, o.1) (record { malformed = λ i. (ap Refused (n ∙ strange_is waits q), refl, refl); answered = λ i. absurd (omega arith) })

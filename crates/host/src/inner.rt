@@ -1,15 +1,14 @@
 // The inner solve: an answer of any kind.
 ghost use Rattle.panoc_core.specs.Board.{before, after, run_of, gave};
-ghost use Rattle.image.specs.Image.{solve_of, step_of};
+ghost use Rattle.image.specs.Image.{solve_of, told_of};
 ghost use Rattle.host.specs.Exports.{Exported};
 
 use image::kinds::reply_of;
 use image::places::N;
-use image::told;
-use image_puts::note;
-use image_solve::refuse;
+use image_solve::{refuse, strange, tell};
 use panoc_answers::lent::take_lent;
 use panoc_core::refusals::refusal;
+use panoc_plan::hand_out;
 use panoc_wanted::{waits, wants_lent};
 
 // An answer to the question of a run; a plan goes into the lent slice.
@@ -33,23 +32,21 @@ pub extern "C" fn pozkerrin_inner_answer(
     direction: &mut [f64; 64],
     best: &mut [f64; 64],
 ) -> u32
-    ensures { Exported kind x code v.now plan.old plan.new (run_of (solve_of w.old k.old f.old) (before u plus gradient previous step half fpr direction best)) (gave (step_of result w.new k.new f.new) (after u plus gradient previous step half fpr direction best)) }
+    ensures { Exported kind x code v.now plan.old plan.new (run_of (solve_of w.old k.old f.old) (before u plus gradient previous step half fpr direction best)) (gave (told_of result w.new k.new f.new) (after u plus gradient previous step half fpr direction best)) }
 {
     let wanted = wants_lent(w, k);
     if 4 < kind {
-        return refuse(waits(wanted), w);
+        return refuse(strange(waits(wanted)), w);
     }
     let a = reply_of(kind, x, code);
-    let number = refusal(wanted, a, v.len(), plan.len() == k[N]);
-    if number != 0 {
-        note(number, w);
-        return told::REFUSED;
+    match refusal(wanted, a, v.len(), plan.len() == k[N]) {
+        None => {
+            let o = take_lent(
+                a, v, w, k, f, u, plus, gradient, previous, step, half, fpr, direction, best,
+            );
+            hand_out(o, best, plan);
+            tell(o, w, k, f)
+        }
+        Some(refusal) => refuse(refusal, w),
     }
-    let r = take_lent(
-        a, v, w, k, f, u, plus, gradient, previous, step, half, fpr, direction, best,
-    );
-    if r == told::ENDED {
-        vector_copies::give(best, plan);
-    }
-    r
 }

@@ -21,7 +21,7 @@ use Rattle.alm_calls.specs.LoopCalls.{Answers, run_of, gave, rest_of, wanted_of}
 use Rattle.alm_calls.proofs.LoopLaws.{wanted_is}
 use Rattle.image.specs.Image.{reply_of, strange, noted}
 use Rattle.image.specs.Rounds.{strange_round}
-use Rattle.alm_image.specs.AlmImage.{alm_of, step_of}
+use Rattle.alm_image.specs.AlmImage.{alm_of, told_of}
 use Rattle.host_loop.specs.Exports.{Exported}
 use Rattle.alm_core.specs.Values.{LoopGave}
 
@@ -37,6 +37,7 @@ module _ (kind : ℕ) (x : Float) (code : ℕ) (v us xs : List Float) (w w' k : 
   strange_is waits h =
       ap (λ (c : Bool). cond c 7 6) h ∙ ap (λ (q : Option Kind). cond (waiting q) 7 6) e ∙ strange_round (wanted_of s) ∙ ap strange (sym (wanted_is s b))
 
-  pub malformed_as : (waits : Bool) (r : ℕ) → 4 < kind → waits ≡ waiting (kind_of wd) → (w' ≡ noted (cond waits 7 6) w) × (r ≡ 2)
-      → Exported kind x code v us us xs xs (run_of s b) (gave (step_of r w' k f lw lk lf) b)
-  malformed_as waits r h q n = rw (n.0, n.1) (record { malformed = λ i. (ap Refused (strange_is waits q), refl, refl, refl); answered = λ i. absurd (omega arith) })
+  pub malformed_as : (waits : Bool) (m r : ℕ) → 4 < kind → waits ≡ waiting (kind_of wd) → m ≡ cond waits 7 6 → (w' ≡ noted m w) × (r ≡ 2)
+      → Exported kind x code v us us xs xs (run_of s b) (gave (told_of r w' k f lw lk lf) b)
+  malformed_as waits m r h q n o =
+      rw (o.0, o.1) (record { malformed = λ i. (ap Refused (n ∙ strange_is waits q), refl, refl, refl); answered = λ i. absurd (omega arith) })

@@ -2,14 +2,12 @@
 #![tactic(auto)]
 
 ghost use Rattle.alm_calls.specs.LoopCalls.{before, after, run_of, gave};
-ghost use Rattle.alm_image.specs.AlmImage.{alm_of, step_of};
+ghost use Rattle.alm_image.specs.AlmImage.{alm_of, told_of};
 ghost use Rattle.host_loop.specs.Exports.{Exported};
 
 use alm_waiting::wants;
 use image::kinds::reply_of;
-use image::told;
-use image_puts::note;
-use image_solve::refuse;
+use image_solve::{refuse, strange};
 use lent_accepted::answer_accepted;
 use lent_places::fits;
 use panoc_core::refusals::refusal;
@@ -43,21 +41,19 @@ pub extern "C" fn pozkerrin_loop_answer(
     plus: &mut [f64; 64],
     f1: &mut [f64; 64],
 ) -> u32
-    ensures { Exported kind x code v.now plan.old plan.new xi.old xi.new (run_of (alm_of w.old k.old f.old lw.old lk.old lf.old) (before u candidate gradient previous step half fpr direction best y plus f1)) (gave (step_of result w.new k.new f.new lw.new lk.new lf.new) (after u candidate gradient previous step half fpr direction best y plus f1)) }
+    ensures { Exported kind x code v.now plan.old plan.new xi.old xi.new (run_of (alm_of w.old k.old f.old lw.old lk.old lf.old) (before u candidate gradient previous step half fpr direction best y plus f1)) (gave (told_of result w.new k.new f.new lw.new lk.new lf.new) (after u candidate gradient previous step half fpr direction best y plus f1)) }
 {
     let wanted = wants(w, k, f, lw, lk, lf);
     if 4 < kind {
-        return refuse(waits(wanted), w);
+        return refuse(strange(waits(wanted)), w);
     }
     let a = reply_of(kind, x, code);
     let fits = fits(lk, plan.len(), xi.len());
-    let number = refusal(wanted, a, v.len(), fits);
-    if number != 0 {
-        note(number, w);
-        return told::REFUSED;
+    match refusal(wanted, a, v.len(), fits) {
+        None => answer_accepted(
+            w, k, f, lw, lk, lf, a, v, plan, xi, u, candidate, gradient, previous, step, half, fpr,
+            direction, best, y, plus, f1,
+        ),
+        Some(refusal) => refuse(refusal, w),
     }
-    answer_accepted(
-        w, k, f, lw, lk, lf, a, v, plan, xi, u, candidate, gradient, previous, step, half, fpr,
-        direction, best, y, plus, f1,
-    )
 }

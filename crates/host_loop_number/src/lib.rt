@@ -4,14 +4,13 @@
 ghost use Rattle.std.specs.Prelude.{[]};
 ghost use Rattle.alm_core.specs.Rest.{LoopBoard};
 ghost use Rattle.alm_calls.specs.LoopCalls.{Answers, run_of, gave};
-ghost use Rattle.alm_image.specs.AlmImage.{alm_of, step_of};
+ghost use Rattle.alm_image.specs.AlmImage.{alm_of, told_of};
 ghost use Rattle.host_loop_number.specs.Eight.{eight};
 
 use alm_core::alm_cache::AlmPhase;
 use alm_image::places::PHASE;
 use alm_waiting::wants;
-use image::told;
-use image_puts::note;
+use image_solve::refuse;
 use lent_loop::carry;
 use lent_own::own_number;
 use lent_places::fits;
@@ -40,18 +39,16 @@ pub extern "C" fn pozkerrin_loop_number(
     y: &mut [f64; 64],
     plus: &[f64; 64],
 ) -> u32
-    ensures { (b : LoopBoard) → Answers (run_of (alm_of w.old k.old f.old lw.old lk.old lf.old) (eight u.old gradient.now step.old half.now fpr.old best.now y.old plus.now b)) (Reply.Number x) [] plan.old plan.new xi.old xi.new (gave (step_of result w.new k.new f.new lw.new lk.new lf.new) (eight u.new gradient.now step.new half.now fpr.new best.now y.new plus.now b)) }
+    ensures { (b : LoopBoard) → Answers (run_of (alm_of w.old k.old f.old lw.old lk.old lf.old) (eight u.old gradient.now step.old half.now fpr.old best.now y.old plus.now b)) (Reply.Number x) [] plan.old plan.new xi.old xi.new (gave (told_of result w.new k.new f.new lw.new lk.new lf.new) (eight u.new gradient.now step.new half.now fpr.new best.now y.new plus.now b)) }
 {
     let wanted = wants(w, k, f, lw, lk, lf);
     let fits = fits(lk, plan.len(), xi.len());
-    let number = refusal(wanted, Reply::Number(x), 0, fits);
-    if number != 0 {
-        note(number, w);
-        return told::REFUSED;
+    if let Some(refusal) = refusal(wanted, Reply::Number(x), 0, fits) {
+        return refuse(refusal, w);
     }
     if lw[PHASE] == AlmPhase::Inner as u32 {
-        let r = on_number(x, w, k, f, u, gradient, step, half, fpr);
-        return carry(r, w, k, f, lw, lk, lf, plan, xi, u, best, y, plus);
+        let o = on_number(x, w, k, f, u, gradient, step, half, fpr);
+        return carry(o, w, k, f, lw, lk, lf, plan, xi, u, best, y, plus);
     }
     own_number(x, w, k, f, lw, lk, lf, plan, xi, u, plus)
 }

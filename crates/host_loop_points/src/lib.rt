@@ -8,6 +8,7 @@ ghost use Rattle.alm_image.specs.AlmImage.{alm_of};
 
 use alm_image::lent::alm_of;
 use alm_points::points_in_place;
+use image::told::number_in;
 
 // The points of the question of a run: 0, or 6 where it has ended and 8 where a slice is not as long as its point.
 #[unsafe(no_mangle)]
@@ -32,7 +33,8 @@ pub extern "C" fn pozkerrin_loop_points<'a>(
     ensures { (b : LoopBoard) → Points (run_of (alm_of w.now k.now f.now lw.now lk.now lf.now) (asked u.now candidate.now step.now half.now fpr.now best.now y.now plus.now b)) first.old first.new second.old second.new result }
 {
     let s = alm_of(w, k, f, lw, lk, lf);
-    points_in_place(
+    let done = points_in_place(
         s, first, second, u, candidate, step, half, fpr, best, y, plus,
-    )
+    );
+    number_in(done)
 }

@@ -7,6 +7,7 @@ ghost use Rattle.host_loop_second.specs.Second.{Second};
 
 use crate::seconds::{fill_second, places};
 use alm_waiting::wants;
+use panoc_core::outcome::Refusal;
 use panoc_wanted::waits;
 
 // The second point of the question of a run alone: xi or u. 0, or 6 where the run has ended and 8 where the slice is not as long as that point.
@@ -25,10 +26,10 @@ pub extern "C" fn pozkerrin_loop_second(
     ensures { (b : LoopBoard) → Second (run_of (alm_of w.now k.now f.now lw.now lk.now lf.now) (set_u u.now (set_y y.now b))) second.old second.new result }
 {
     if !waits(wants(w, k, f, lw, lk, lf)) {
-        return 6;
+        return Refusal::Over.number();
     }
     if second.len() != places(w, k, f, lw, lk, lf) {
-        return 8;
+        return Refusal::Lengths.number();
     }
     fill_second(w, k, f, lw, lk, lf, second, u, y);
     0

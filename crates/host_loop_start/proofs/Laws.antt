@@ -10,7 +10,7 @@ use Rattle.alm_calls.specs.LoopCalls.{Begins}
 use Rattle.alm_core.specs.Values.{LoopStep}
 
 module _ (s x : AlmSettings) (v xi u y z : List Float) (r : LoopStep) (g : (b : LoopBoard) → Begins s v xi r (set_u u (set_y y (set_y_plus z b)))) (e : s ≡ x) where
-  pub begun_set : (q : AlmSettings) → q ≡ x → q ≡ r.alm.set
+  pub begun_set : (q : AlmSettings) → q ≡ x → q ≡ r.state.set
   begun_set q h = h ∙ sym e ∙ sym (g (record { inner = nine [] [] [] [] [] [] [] [] []; y = []; y_plus = []; w = [] })).settings
 
   pub begins_as : (t : LoopStep) → t ≡ r → (b : LoopBoard) → Begins x v xi t (set_u u (set_y y (set_y_plus z b)))

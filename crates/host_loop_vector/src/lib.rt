@@ -2,11 +2,10 @@
 #![tactic(auto)]
 
 ghost use Rattle.alm_calls.specs.LoopCalls.{Answers, before, after, run_of, gave};
-ghost use Rattle.alm_image.specs.AlmImage.{alm_of, step_of};
+ghost use Rattle.alm_image.specs.AlmImage.{alm_of, told_of};
 
 use alm_waiting::wants;
-use image::told;
-use image_puts::note;
+use image_solve::refuse;
 use lent_accepted::answer_accepted;
 use lent_places::fits;
 use panoc_core::panoc_cache::Reply;
@@ -37,37 +36,35 @@ pub extern "C" fn pozkerrin_loop_vector(
     plus: &mut [f64; 64],
     f1: &mut [f64; 64],
 ) -> u32
-    ensures { Answers (run_of (alm_of w.old k.old f.old lw.old lk.old lf.old) (before u candidate gradient previous step half fpr direction best y plus f1)) Reply.Vector v.now plan.old plan.new xi.old xi.new (gave (step_of result w.new k.new f.new lw.new lk.new lf.new) (after u candidate gradient previous step half fpr direction best y plus f1)) }
+    ensures { Answers (run_of (alm_of w.old k.old f.old lw.old lk.old lf.old) (before u candidate gradient previous step half fpr direction best y plus f1)) Reply.Vector v.now plan.old plan.new xi.old xi.new (gave (told_of result w.new k.new f.new lw.new lk.new lf.new) (after u candidate gradient previous step half fpr direction best y plus f1)) }
 {
     let wanted = wants(w, k, f, lw, lk, lf);
     let fits = fits(lk, plan.len(), xi.len());
-    let number = refusal(wanted, Reply::Vector, v.len(), fits);
-    if number != 0 {
-        note(number, w);
-        return told::REFUSED;
+    match refusal(wanted, Reply::Vector, v.len(), fits) {
+        None => answer_accepted(
+            w,
+            k,
+            f,
+            lw,
+            lk,
+            lf,
+            Reply::Vector,
+            v,
+            plan,
+            xi,
+            u,
+            candidate,
+            gradient,
+            previous,
+            step,
+            half,
+            fpr,
+            direction,
+            best,
+            y,
+            plus,
+            f1,
+        ),
+        Some(refusal) => refuse(refusal, w),
     }
-    answer_accepted(
-        w,
-        k,
-        f,
-        lw,
-        lk,
-        lf,
-        Reply::Vector,
-        v,
-        plan,
-        xi,
-        u,
-        candidate,
-        gradient,
-        previous,
-        step,
-        half,
-        fpr,
-        direction,
-        best,
-        y,
-        plus,
-        f1,
-    )
 }

@@ -4,14 +4,14 @@
 ghost use Rattle.std.specs.Prelude.{[]};
 ghost use Rattle.panoc_core.specs.Board.{Board, run_of, gave, five, set_best};
 ghost use Rattle.panoc_core.specs.Calls.{Answers};
-ghost use Rattle.image.specs.Image.{solve_of, step_of};
+ghost use Rattle.image.specs.Image.{solve_of, told_of};
 
 use image::places::N;
-use image::told;
-use image_puts::note;
+use image_solve::{refuse, tell};
 use panoc_core::panoc_cache::Reply;
 use panoc_core::refusals::refusal;
 use panoc_numbers::on_number;
+use panoc_plan::hand_out;
 use panoc_wanted::wants_lent;
 
 // The number x for the question of a run; a plan goes into the lent slice.
@@ -29,17 +29,15 @@ pub extern "C" fn pozkerrin_inner_number(
     fpr: &mut [f64; 64],
     best: &[f64; 64],
 ) -> u32
-    ensures { (b : Board) → Answers (run_of (solve_of w.old k.old f.old) (set_best best.now (five u.now gradient.now step.old half.now fpr.old b))) (Reply.Number x) [] plan.old plan.new (gave (step_of result w.new k.new f.new) (set_best best.now (five u.now gradient.now step.new half.now fpr.new b))) }
+    ensures { (b : Board) → Answers (run_of (solve_of w.old k.old f.old) (set_best best.now (five u.now gradient.now step.old half.now fpr.old b))) (Reply.Number x) [] plan.old plan.new (gave (told_of result w.new k.new f.new) (set_best best.now (five u.now gradient.now step.new half.now fpr.new b))) }
 {
     let wanted = wants_lent(w, k);
-    let number = refusal(wanted, Reply::Number(x), 0, plan.len() == k[N]);
-    if number != 0 {
-        note(number, w);
-        return told::REFUSED;
+    match refusal(wanted, Reply::Number(x), 0, plan.len() == k[N]) {
+        None => {
+            let o = on_number(x, w, k, f, u, gradient, step, half, fpr);
+            hand_out(o, best, plan);
+            tell(o, w, k, f)
+        }
+        Some(refusal) => refuse(refusal, w),
     }
-    let r = on_number(x, w, k, f, u, gradient, step, half, fpr);
-    if r == told::ENDED {
-        vector_copies::give(best, plan);
-    }
-    r
 }

@@ -9,6 +9,7 @@ ghost use Rattle.host_points.specs.Places.{place_of, Lies};
 
 use image::kinds::phase_of;
 use image::places::PHASE;
+use image::told::number_in;
 use image_solve::solve_of;
 use panoc_core::panoc_cache::Phase;
 use panoc_points::points_in_place;
@@ -30,7 +31,7 @@ pub extern "C" fn pozkerrin_inner_points<'a>(
 ) -> u32
     ensures { (b : Board) → Points (run_of (solve_of w.now k.now f.now) (asked u.now plus.now step.now half.now fpr.now best.now b)) first.old first.new second.old second.new result }
 {
-    points_in_place(
+    let done = points_in_place(
         solve_of(w, k, f),
         first,
         second,
@@ -40,7 +41,8 @@ pub extern "C" fn pozkerrin_inner_points<'a>(
         half,
         fpr,
         best,
-    )
+    );
+    number_in(done)
 }
 
 // The vector that holds the first point of a phase's question: 0 u, 1 the candidate, 2 the gradient step, 3 the half step, 4 the residual,

@@ -2,7 +2,7 @@
 #![tactic(auto)]
 
 ghost use Rattle.panoc_core.specs.Board.{Board, Begins, set_u};
-ghost use Rattle.image.specs.Image.{settings_given, step_of};
+ghost use Rattle.image.specs.Image.{settings_given, told_of};
 
 use image_keep::keep;
 use image_solve::{begin, settings_given, tell};
@@ -23,7 +23,7 @@ pub extern "C" fn pozkerrin_inner_start(
     at: &[f64],
     u: &mut [f64; 64],
 ) -> u32
-    ensures { (b : Board) → Begins (settings_given n max_iter limited tolerance has_akkt akkt_tolerance) at.now (step_of result w.new k.new f.new) (set_u u.new b) }
+    ensures { (b : Board) → Begins (settings_given n max_iter limited tolerance has_akkt akkt_tolerance) at.now (told_of result w.new k.new f.new) (set_u u.new b) }
 {
     begin(
         n,
@@ -38,6 +38,6 @@ pub extern "C" fn pozkerrin_inner_start(
     );
     let set = settings_given(n, max_iter, limited, tolerance, has_akkt, akkt_tolerance);
     let r = start_in_place(set, at, u);
-    keep(r.solve, w, k, f);
+    keep(r.state, w, k, f);
     tell(r.outcome, w, k, f)
 }

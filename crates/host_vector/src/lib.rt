@@ -3,14 +3,14 @@
 
 ghost use Rattle.panoc_core.specs.Board.{before, after, run_of, gave};
 ghost use Rattle.panoc_core.specs.Calls.{Answers};
-ghost use Rattle.image.specs.Image.{solve_of, step_of};
+ghost use Rattle.image.specs.Image.{solve_of, told_of};
 
 use image::places::N;
-use image::told;
-use image_puts::note;
+use image_solve::{refuse, tell};
 use panoc_answers::lent::on_vector;
 use panoc_core::panoc_cache::Reply;
 use panoc_core::refusals::refusal;
+use panoc_plan::hand_out;
 use panoc_wanted::wants_lent;
 
 // The vector v for the question of a run; a plan goes into the lent slice.
@@ -31,19 +31,17 @@ pub extern "C" fn pozkerrin_inner_vector(
     direction: &mut [f64; 64],
     best: &mut [f64; 64],
 ) -> u32
-    ensures { Answers (run_of (solve_of w.old k.old f.old) (before u plus gradient previous step half fpr direction best)) Reply.Vector v.now plan.old plan.new (gave (step_of result w.new k.new f.new) (after u plus gradient previous step half fpr direction best)) }
+    ensures { Answers (run_of (solve_of w.old k.old f.old) (before u plus gradient previous step half fpr direction best)) Reply.Vector v.now plan.old plan.new (gave (told_of result w.new k.new f.new) (after u plus gradient previous step half fpr direction best)) }
 {
     let wanted = wants_lent(w, k);
-    let number = refusal(wanted, Reply::Vector, v.len(), plan.len() == k[N]);
-    if number != 0 {
-        note(number, w);
-        return told::REFUSED;
+    match refusal(wanted, Reply::Vector, v.len(), plan.len() == k[N]) {
+        None => {
+            let o = on_vector(
+                v, w, k, f, u, plus, gradient, previous, step, half, fpr, direction, best,
+            );
+            hand_out(o, best, plan);
+            tell(o, w, k, f)
+        }
+        Some(refusal) => refuse(refusal, w),
     }
-    let r = on_vector(
-        v, w, k, f, u, plus, gradient, previous, step, half, fpr, direction, best,
-    );
-    if r == told::ENDED {
-        vector_copies::give(best, plan);
-    }
-    r
 }

@@ -2,7 +2,7 @@
 #![tactic(auto)]
 
 ghost use Rattle.alm_calls.specs.LoopCalls.{Answers, before, after, run_of, gave};
-ghost use Rattle.alm_image.specs.AlmImage.{alm_of, step_of};
+ghost use Rattle.alm_image.specs.AlmImage.{alm_of, told_of};
 ghost use Rattle.lent_loop.specs.Lent.{Accepted};
 
 use alm_core::alm_cache::AlmPhase;
@@ -38,13 +38,13 @@ pub fn answer_accepted(
     f1: &mut [f64; 64],
 ) -> u32
     requires { Accepted (alm_of w.old k.old f.old lw.old lk.old lf.old) a v.now plan.old xi.old }
-    ensures { Answers (run_of (alm_of w.old k.old f.old lw.old lk.old lf.old) (before u candidate gradient previous step half fpr direction best y plus f1)) a v.now plan.old plan.new xi.old xi.new (gave (step_of result w.new k.new f.new lw.new lk.new lf.new) (after u candidate gradient previous step half fpr direction best y plus f1)) }
+    ensures { Answers (run_of (alm_of w.old k.old f.old lw.old lk.old lf.old) (before u candidate gradient previous step half fpr direction best y plus f1)) a v.now plan.old plan.new xi.old xi.new (gave (told_of result w.new k.new f.new lw.new lk.new lf.new) (after u candidate gradient previous step half fpr direction best y plus f1)) }
 {
     if lw[PHASE] == AlmPhase::Inner as u32 {
-        let r = take_lent(
+        let o = take_lent(
             a, v, w, k, f, u, candidate, gradient, previous, step, half, fpr, direction, best,
         );
-        return carry(r, w, k, f, lw, lk, lf, plan, xi, u, best, y, plus);
+        return carry(o, w, k, f, lw, lk, lf, plan, xi, u, best, y, plus);
     }
     own(
         w, k, f, lw, lk, lf, a, v, plan, xi, u, candidate, best, y, plus, f1,

@@ -5,7 +5,7 @@ ghost use Rattle.std.specs.Prelude.{◌≡◌, [], get_or};
 ghost use Rattle.alm_core.specs.Rest.{LoopBoard};
 ghost use Rattle.alm_core.specs.Board.{set_u, set_y_plus, six};
 ghost use Rattle.alm_calls.specs.LoopCalls.{Answers, run_of, gave};
-ghost use Rattle.alm_image.specs.AlmImage.{alm_of, step_of};
+ghost use Rattle.alm_image.specs.AlmImage.{alm_of, told_of};
 ghost use Rattle.lent_loop.specs.Lent.{Accepted};
 
 use alm_answers::take_own;
@@ -29,7 +29,7 @@ pub fn own_number(
     plus: &[f64; 64],
 ) -> u32
     requires { (Accepted (alm_of w.old k.old f.old lw.old lk.old lf.old) (Reply.Number x) [] plan.old xi.old) × (get_or lw.old 0 0 ≡ 3 → ⊥) }
-    ensures { (b : LoopBoard) → Answers (run_of (alm_of w.old k.old f.old lw.old lk.old lf.old) (set_u u.now (set_y_plus plus.now b))) (Reply.Number x) [] plan.old plan.new xi.old xi.new (gave (step_of result w.new k.new f.new lw.new lk.new lf.new) (set_u u.now (set_y_plus plus.now b))) }
+    ensures { (b : LoopBoard) → Answers (run_of (alm_of w.old k.old f.old lw.old lk.old lf.old) (set_u u.now (set_y_plus plus.now b))) (Reply.Number x) [] plan.old plan.new xi.old xi.new (gave (told_of result w.new k.new f.new lw.new lk.new lf.new) (set_u u.now (set_y_plus plus.now b))) }
 {
     let s = alm_of(w, k, f, lw, lk, lf);
     let o = on_last_cost(s, x);
@@ -56,7 +56,7 @@ pub fn own(
     f1: &mut [f64; 64],
 ) -> u32
     requires { (Accepted (alm_of w.old k.old f.old lw.old lk.old lf.old) a v.now plan.old xi.old) × (get_or lw.old 0 0 ≡ 3 → ⊥) }
-    ensures { (b : LoopBoard) → Answers (run_of (alm_of w.old k.old f.old lw.old lk.old lf.old) (six u.old candidate.old best.now y.old plus.old f1.old b)) a v.now plan.old plan.new xi.old xi.new (gave (step_of result w.new k.new f.new lw.new lk.new lf.new) (six u.new candidate.new best.now y.new plus.new f1.new b)) }
+    ensures { (b : LoopBoard) → Answers (run_of (alm_of w.old k.old f.old lw.old lk.old lf.old) (six u.old candidate.old best.now y.old plus.old f1.old b)) a v.now plan.old plan.new xi.old xi.new (gave (told_of result w.new k.new f.new lw.new lk.new lf.new) (six u.new candidate.new best.now y.new plus.new f1.new b)) }
 {
     let s = alm_of(w, k, f, lw, lk, lf);
     let o = take_own(s, a, v, u, candidate, best, y, plus, f1);

@@ -1,7 +1,7 @@
 -- What an end of a loop hands back in the lent u and xi. Definitions only.
 use Rattle.std.specs.Prelude.{◌≡◌, List, Float, length}
 use Rattle.matrix_operations.specs.Firsts.{firsts}
-use Rattle.alm_core.specs.Board.{given}
+use Rattle.panoc_core.specs.Told.{given}
 use Rattle.alm_calls.specs.LoopCalls.{xi_handed}
 use Rattle.alm_core.specs.Values.{LoopStep}
 

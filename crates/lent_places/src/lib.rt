@@ -3,13 +3,15 @@
 
 ghost use Rattle.std.specs.Prelude.{◌≡◌, ◌&&◌, ◌≤◌, eqb, length, get_or};
 ghost use Rattle.model.specs.Refusals.{xi_length};
-ghost use Rattle.alm_image.specs.AlmImage.{settings_of, step_of};
+ghost use Rattle.panoc_core.specs.Told.{told};
+ghost use Rattle.alm_image.specs.AlmImage.{settings_of, told_of};
 ghost use Rattle.lent_places.specs.Handing.{HandsOut};
 
-use alm_calls::lent::{hand_out, hand_out_xi};
+use alm_calls::lent::hand_out_xi;
 use alm_core::alm_cache::AlmStepped;
 use alm_image::lent::{keep_alm, tell_alm};
 use alm_image::places::{N, N1, N2};
+use panoc_plan::hand_out;
 use start_sizes::xi_fits;
 
 // Whether the lent u and xi have the lengths asked.
@@ -33,11 +35,11 @@ pub fn finish(
     u: &[f64; 64],
     plus: &[f64; 64],
 ) -> u32
-    requires { (length plan.old ≤ 64) × (length xi.old ≤ 33) × (settings_of lw.old lk.old lf.old ≡ o.alm.set) }
-    ensures { (step_of result w.new k.new f.new lw.new lk.new lf.new ≡ o) × (HandsOut o u.now plus.now plan.old plan.new xi.old xi.new) }
+    requires { (length plan.old ≤ 64) × (length xi.old ≤ 33) × (settings_of lw.old lk.old lf.old ≡ o.state.set) }
+    ensures { (told_of result w.new k.new f.new lw.new lk.new lf.new ≡ told o) × (HandsOut (told o) u.now plus.now plan.old plan.new xi.old xi.new) }
 {
     hand_out(o.outcome, u, plan);
     hand_out_xi(o.outcome, plus, xi);
-    keep_alm(o.alm, w, k, f, lw, lk, lf);
+    keep_alm(o.state, w, k, f, lw, lk, lf);
     tell_alm(o.outcome, w, k, f, lk, lf)
 }

@@ -1,4 +1,5 @@
 // The answer to a run of the inner solve, by value.
+ghost use Rattle.panoc_core.specs.Told.{answered};
 ghost use Rattle.panoc_core.specs.Calls.{Answers};
 
 use panoc_core::panoc_cache::{Answered, Reply, Run};
@@ -6,7 +7,7 @@ pub use panoc_in_place::answer_in_place;
 
 // An answer to the question of a run by value.
 pub fn answer(mut run: Run, a: Reply, v: &[f64], plan: &mut [f64]) -> Answered
-    ensures { Answers run a v.now plan.old plan.new result }
+    ensures { Answers run a v.now plan.old plan.new (answered result) }
 {
     let r = answer_in_place(
         run.solve,
@@ -23,7 +24,7 @@ pub fn answer(mut run: Run, a: Reply, v: &[f64], plan: &mut [f64]) -> Answered
         &mut run.direction_lbfgs,
         &mut run.best_u_half_step,
     );
-    run.solve = r.solve;
+    run.solve = r.state;
     Answered {
         outcome: r.outcome,
         run,

@@ -20,7 +20,7 @@ use Rattle.panoc_core.specs.declared.refusals.Wanted.{Wanted}
 use Rattle.std.specs.Prelude as Std
 use Rattle.panoc_core.specs.Values.{reply_of, kind_of, Step}
 use Rattle.panoc_core.specs.Rest.{rest}
-use Rattle.panoc_core.specs.Board.{Board, run_of, gave, given, Takes, Sound, wanted_of}
+use Rattle.panoc_core.specs.Board.{Board, run_of, gave, Takes, Sound, wanted_of}
 use Rattle.panoc_core.specs.Calls.{Answers}
 use Rattle.panoc_core.specs.Laws.{sound_n}
 use Rattle.panoc_core.specs.Wanted.{wanted_is, wanted_sound, refusal_zero}
@@ -33,15 +33,15 @@ module _ (s : Solve) (b : Board) (a : Reply) (v us : List Float) (m : ℕ) (t : 
   refusal_is : answer_refusal (wanted (rest (run_of s b))) (reply_of a) (length v) (eqb (length us) s.set.n) ≡ m
   refusal_is = ap (λ (w : Option Kind). answer_refusal w (reply_of a) (length v) (eqb (length us) s.set.n)) (wanted_is s b) ∙ ap (answer_refusal (wanted_of s) (reply_of a) (length v)) (sym te) ∙ sym e
 
-  pub answer_goes : (b' : Board) (ws : List Float) (r : Step) → m ≡ 0 → Takes s b a v r b' → ws ≡ given r.outcome (firsts (length us) b'.best) us → Answers (run_of s b) a v us ws (gave r b')
+  pub answer_goes : (b' : Board) (ws : List Float) (r : Step) → m ≡ 0 → Takes s b a v r b' → ws ≡ O.given r.outcome (firsts (length us) b'.best) us → Answers (run_of s b) a v us ws (gave r b')
   answer_goes b' ws r z k w =
       let n≡ : length us ≡ s.set.n = eqb-true _ _ (sym te ∙ (refusal_zero (wanted_of s) (reply_of a) (length v) t (sym e ∙ z)).0) in
       record {
         refused = λ j q. absurd (omega (arith, sym refusal_is ∙ q, z));
-        accepted = λ q. record { settings = k.settings; outcome = k.outcome; process = k.process; wrote = w ∙ ap (λ (i : ℕ). given r.outcome (firsts i b'.best) us) n≡ ∙ sym (k.plan us) };
+        accepted = λ q. record { settings = k.settings; outcome = k.outcome; process = k.process; wrote = w ∙ ap (λ (i : ℕ). O.given r.outcome (firsts i b'.best) us) n≡ ∙ sym (k.plan us) };
       }
 
-  pub answer_refused : (m ≡ 0 → ⊥) → Answers (run_of s b) a v us us (gave (record { outcome = O.Refused m; solve = s }) b)
+  pub answer_refused : (m ≡ 0 → ⊥) → Answers (run_of s b) a v us us (gave (record { outcome = O.Refused m; state = s }) b)
   answer_refused z =
       record { refused = λ j q. (ap O.Refused (sym refusal_is ∙ q), refl, refl); accepted = λ q. absurd (z (sym refusal_is ∙ q)) }
 

@@ -1,6 +1,7 @@
 // The answer to a run of the inner solve, in place.
 #![tactic(auto)]
 
+ghost use Rattle.panoc_core.specs.Told.{told};
 ghost use Rattle.panoc_core.specs.Board.{run_of, gave, before, after};
 ghost use Rattle.panoc_core.specs.Calls.{Answers};
 
@@ -26,20 +27,20 @@ pub fn answer_in_place(
     direction: &mut [f64; 64],
     best: &mut [f64; 64],
 ) -> Stepped
-    ensures { Answers (run_of s (before u plus gradient previous step half fpr direction best)) a v.now plan.old plan.new (gave result (after u plus gradient previous step half fpr direction best)) }
+    ensures { Answers (run_of s (before u plus gradient previous step half fpr direction best)) a v.now plan.old plan.new (gave (told result) (after u plus gradient previous step half fpr direction best)) }
 {
     let fits = plan.len() == s.set.n;
-    let number = refusal(wants(s), a, v.len(), fits);
-    if number == 0 {
-        let r = take(
-            s, a, v, u, plus, gradient, previous, step, half, fpr, direction, best,
-        );
-        hand_out(r.outcome, best, plan);
-        r
-    } else {
-        Stepped {
-            outcome: Outcome::Refused(number),
-            solve: s,
+    match refusal(wants(s), a, v.len(), fits) {
+        None => {
+            let r = take(
+                s, a, v, u, plus, gradient, previous, step, half, fpr, direction, best,
+            );
+            hand_out(r.outcome, best, plan);
+            r
         }
+        Some(refusal) => Stepped {
+            outcome: Outcome::Refused(refusal),
+            state: s,
+        },
     }
 }

@@ -2,9 +2,11 @@
 #![tactic(auto)]
 
 ghost use Rattle.std.specs.Prelude.{◌≡◌};
+ghost use Rattle.panoc_core.specs.Told.{number_in};
 ghost use Rattle.panoc_core.specs.Board.{Board, run_of, wanted_of, waiting, asked};
 ghost use Rattle.panoc_core.specs.Calls.{Points};
 
+use panoc_core::outcome::Refusal;
 use panoc_core::panoc_cache::{Run, Solve};
 use panoc_places::{first_places, first_point, second_places};
 use panoc_wanted::{waits, wants};
@@ -16,7 +18,7 @@ pub fn is_waiting(s: Solve) -> bool
     waits(wants(s))
 }
 
-// The points of the question of a run in place: 0, or 6 where it has ended and 8 where a slice is not as long as its point.
+// The points of the question of a run in place; refused where it has ended or a slice is not as long as its point.
 pub fn points_in_place<'a>(
     s: Solve,
     first: &mut [f64],
@@ -27,23 +29,23 @@ pub fn points_in_place<'a>(
     half: &'a [f64; 64],
     fpr: &'a [f64; 64],
     best: &'a [f64; 64],
-) -> u32
-    ensures { (b : Board) → Points (run_of s (asked u.now plus.now step.now half.now fpr.now best.now b)) first.old first.new second.old second.new result }
+) -> Result<(), Refusal>
+    ensures { (b : Board) → Points (run_of s (asked u.now plus.now step.now half.now fpr.now best.now b)) first.old first.new second.old second.new (number_in result) }
 {
     if !is_waiting(s) {
-        return 6;
+        return Err(Refusal::Over);
     }
     if first.len() != first_places(s) || second.len() != second_places(s) {
-        return 8;
+        return Err(Refusal::Lengths);
     }
     first_point(s, first, u, plus, step, half, fpr, best);
     vector_copies::give(u, second);
-    0
+    Ok(())
 }
 
 // The points of the question of a run by value.
-pub fn points(run: Run, first: &mut [f64], second: &mut [f64]) -> u32
-    ensures { Points run first.old first.new second.old second.new result }
+pub fn points(run: Run, first: &mut [f64], second: &mut [f64]) -> Result<(), Refusal>
+    ensures { Points run first.old first.new second.old second.new (number_in result) }
 {
     points_in_place(
         run.solve,
