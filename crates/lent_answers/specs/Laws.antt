@@ -30,7 +30,9 @@ module _ (a : Reply) (v us : List Float) (w k : List ℕ) (f : List Float) (b : 
 
   -- the table refuses: the number is told, and nothing else changes
   pub refused_as : (w' : List ℕ) (r : ℕ) → (m ≡ 0 → ⊥) → (w' ≡ noted m w) × (r ≡ 2) → Answers (run_of s b) a v us us (gave (told_of r w' k f) b)
-  refused_as w' r z n = rw (n.0, n.1) (answer_refused s b a v us m t te by_table z)
+  refused_as w' r z n =
+      subst (λ (y : List ℕ). Answers (run_of s b) a v us us (gave (told_of r y k f) b)) (sym n.0)
+      (subst (λ (y : ℕ). Answers (run_of s b) a v us us (gave (told_of y (noted m w) k f) b)) (sym n.1) (answer_refused s b a v us m t te by_table z))
 
   module _ (z : m ≡ 0) where
     pub may : answer_refusal (wanted_of s) (reply_of a) (length v) true ≡ 0

@@ -57,7 +57,10 @@ module _ (a : Reply) (v us xs : List Float) (w k : List ℕ) (f : List Float) (l
   run = alm_of w k f lw lk lf
 
   pub refused_as : (b : LoopBoard) (w' : List ℕ) (r : ℕ) → (m ≡ 0 → ⊥) → (w' ≡ noted m w) × (r ≡ 2) → Answers (run_of run b) a v us us xs xs (gave (told_of r w' k f lw lk lf) b)
-  refused_as b w' r z n = rw (n.0, n.1) (answer_refused run b a v us xs m t te (refusal_wanted run wd a (length v) t e q) z)
+  refused_as b w' r z n =
+      subst (λ (y : List ℕ). Answers (run_of run b) a v us us xs xs (gave (told_of r y k f lw lk lf) b)) (sym n.0)
+      (subst (λ (y : ℕ). Answers (run_of run b) a v us us xs xs (gave (told_of y (noted m w) k f lw lk lf) b)) (sym n.1)
+      (answer_refused run b a v us xs m t te (refusal_wanted run wd a (length v) t e q) z))
 
   pub accepted_as : m ≡ 0 → Accepted run a v us xs
   accepted_as z = ap (answer_refusal (wanted_of run) (Inner.reply_of a) (length v)) (sym te) ∙ sym (refusal_wanted run wd a (length v) t e q) ∙ z
