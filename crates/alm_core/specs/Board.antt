@@ -1,5 +1,5 @@
 -- The loop in place: its small part by value, and its vectors where they are lent. Definitions only.
-use Rattle.std.specs.Prelude.{◌+◌, ◌-◌, ◌*◌, ◌≤◌, ◌≡◌, Bool, true, not, ◌&&◌, ◌||◌, List, [], eqb, Float}
+use Rattle.std.specs.Prelude.{◌+◌, ◌-◌, ◌*◌, ◌≤◌, ◌≡◌, Bool, true, not, ◌&&◌, ◌||◌, List, eqb, Float}
 use Rattle.std.specs.Float.{binary64}
 use Rattle.std.specs.Float.Ieee.{add, mul, le}
 use Rattle.model.specs.Constants.{epsilon}
@@ -19,7 +19,7 @@ use Rattle.alm_core.specs.declared.alm_cache.AlmOptimizerStatus.{AlmOptimizerSta
 use Rattle.alm_core.specs.declared.alm_cache.Alm.{Alm}
 use Rattle.alm_core.specs.declared.alm_cache.AlmPhase.{AlmPhase}
 use Rattle.alm_core.specs.declared.alm_cache.AlmSettings.{AlmSettings}
-use Rattle.panoc_core.specs.Told.{Asked, Ended, Refused, Failed}
+use Rattle.panoc_core.specs.Told.{Asked, Ended, Refused, Failed, given}
 use Rattle.alm_core.specs.Values.{settings_of, said, LoopSays, LoopStep}
 use Rattle.alm_core.specs.Rest.{LoopBoard, rest, sound, sized, counts, next_of, carried_of, found_y}
 
@@ -40,12 +40,6 @@ Closing s =
     (sized s ≡ true) × (s.left ≤ 999) × (s.outer.0 ≤ 1000 - s.left) × (s.inner.0 ≤ 10000 * s.outer.0) × (s.found.0 ≤ 10000) × (s.solve.set.n ≡ s.set.n)
 
 -- ---- what stands in the lent places after an end; nothing lent is written yet: the plan lies in u, the multipliers in y_plus
-unfoldable pub given : LoopSays → List Float → List Float → List Float
-given (Asked q) u us = us
-given (Ended st) u us = u
-given (Refused k) u us = us
-given (Failed c) u us = us
-
 unfoldable pub given_xi : L.LoopSettings → LoopSays → List Float → List Float → List Float
 given_xi s (Asked q) y xs = xs
 given_xi s (Ended st) y xs = xi_of s st.penalty y
@@ -53,9 +47,9 @@ given_xi s (Refused k) y xs = xs
 given_xi s (Failed c) y xs = xs
 
 pub record Comes (s : AlmSettings) (p : M.Loop) (r : LoopStep) (b : LoopBoard) : Type 0 where
-  pub settings : r.alm.set ≡ s
+  pub settings : r.state.set ≡ s
   pub outcome : r.outcome ≡ said p
-  pub process : rest r.alm b ≡ remains p
+  pub process : rest r.state b ≡ remains p
   pub plan : (us : List Float) → lent_after loop_plan p us ≡ given r.outcome (firsts s.n b.inner.u) us
   pub xi : (xs : List Float) → lent_after (loop_xi (settings_of s)) p xs ≡ given_xi (settings_of s) r.outcome (firsts s.n1 b.y_plus) xs
 
@@ -71,7 +65,7 @@ abbrev pub with_status : ExitStatus → Alm → Alm
 with_status e s = record { phase = s.phase; set = s.set; numbers = s.numbers; left = s.left; outer = s.outer; inner = s.inner; found = s.found; status = e; solve = s.solve }
 
 abbrev pub stepped : LoopSays → AlmPhase → Alm → LoopStep
-stepped o p s = record { outcome = o; alm = at_phase p s }
+stepped o p s = record { outcome = o; state = at_phase p s }
 
 -- ---- the board with some of its vectors replaced
 abbrev pub set_y : List Float → LoopBoard → LoopBoard

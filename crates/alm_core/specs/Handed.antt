@@ -1,6 +1,6 @@
 -- An inner solve that hands back its plan after an answer counts the steps of its run: at most 10,000. Assumes nothing.
 use Prim.Native.Nat.{ℕ, zero, suc, ◌≤◌}
-use Rattle.std.specs.Prelude.{◌≡◌, refl, Bool, cond, ◌&&◌, List, [], eqb, Float}
+use Rattle.std.specs.Prelude.{◌≡◌, refl, Bool, cond, ◌&&◌, List, eqb, Float}
 use Rattle.std.proofs.Common.{arith}
 use Rattle.std.proofs.Math.Bool.{true, false}
 use Rattle.std.specs.Float.Ieee.{binary64, lt}
@@ -15,6 +15,7 @@ use Rattle.model.specs.Inner as I
 use Rattle.model.specs.Inner.{Next}
 use Rattle.model.specs.Refusals as R
 use Rattle.model.specs.Refusals.{accept, replied, go_on, as_number, as_vector, as_decision}
+use Rattle.panoc_core.specs.Told as O
 use Rattle.panoc_core.specs.Values.{said, settings_of, status_of}
 use Rattle.panoc_core.specs.Rest.{rest, resume, sound, iterate_of, opening_of, doubling_at, half_cost_at}
 use Rattle.panoc_core.specs.Board.{Board, run_of}
@@ -35,15 +36,15 @@ short_cond false p q a b = b
 
 module _ (s : S.Settings) where
   finish_short : (e : M.Status) (i : Iterate) → Short (I.finish binary64 s e i)
-  unfolding I.finish I.last_test said
+  unfolding I.finish I.last_test O.said
   finish_short e i = short_cond (all_finite i.u) _ _ tt tt
 
   step_short : (e : M.Status) (next : Next) (i : Iterate) → Short (I.step binary64 s e next i)
-  unfolding I.step I.tested said
+  unfolding I.step I.tested O.said
   step_short e next i = short_cond (I.passes binary64 s (I.entered binary64 s i)) _ _ (finish_short e _) tt
 
   laps_short : (l : ℕ) (i : Iterate) → Short (I.laps binary64 s l i)
-  unfolding I.laps I.timed said
+  unfolding I.laps I.timed O.said
   laps_short zero i = finish_short M.not_converged_iterations i
   laps_short (suc l) i = short_cond s.limited _ _ tt (step_short _ _ _)
 
@@ -54,17 +55,17 @@ module _ (s : S.Settings) where
   onward_short M.not_converged_out_of_time l i = finish_short M.not_converged_out_of_time i
 
   doubling_short : (k : ℕ) (e : M.Status) (next : Next) (forget : Bool) (st : State) (c : Float) → Short (I.doubling binary64 s k e next forget st c)
-  unfolding I.doubling I.ask_direction said
+  unfolding I.doubling I.ask_direction O.said
   doubling_short zero e next forget st c = tt
   doubling_short (suc k) e next forget st c = short_cond (lt (I.ceiling binary64 st) c && lt st.at.lipschitz (max_lipschitz_constant binary64)) _ _ tt tt
 
   held_short : (k : ℕ) (e : M.Status) (next : Next) (forget : Bool) (v : Float) (st : State) (c : Float) → Short (doubling_at s e next k forget v st c)
-  unfolding doubling_at I.ask_direction said
+  unfolding doubling_at I.ask_direction O.said
   held_short zero e next forget v st c = tt
   held_short (suc k) e next forget v st c = short_cond (lt v c && lt st.at.lipschitz (max_lipschitz_constant binary64)) _ _ tt tt
 
   retry_short : (k : ℕ) (e : M.Status) (l : ℕ) (τ v : Float) (d w : List Float) (st : State) → Short (I.retry binary64 s k e (I.laps binary64 s l) τ v d w st)
-  unfolding I.retry I.trial said
+  unfolding I.retry I.trial O.said
   retry_short zero e l τ v d w st = onward_short e l _
   retry_short (suc k) e l τ v d w st = tt
 
@@ -77,7 +78,7 @@ module _ (r : Run) (few : r.solve.iterations.0 ≤ 10000) where
   end = status_of r.solve.status
 
   number_short : (p : Phase) (x : Float) (v : List Float) → Short (accept (resume r p) (R.Reply.number x) v)
-  unfolding accept replied go_on as_number resume said I.start_cost half_cost_at I.doubled_cost I.first_cost I.tried_cost I.last_cost
+  unfolding accept replied go_on as_number resume O.said I.start_cost half_cost_at I.doubled_cost I.first_cost I.tried_cost I.last_cost
   number_short P.Cost x v = tt
   number_short P.Gradient x v = tt
   number_short P.Shifted x v = tt
@@ -97,7 +98,7 @@ module _ (r : Run) (few : r.solve.iterations.0 ≤ 10000) where
   number_short P.Over x v = tt
 
   vector_short : (p : Phase) (v : List Float) → Short (accept (resume r p) R.Reply.vector v)
-  unfolding accept replied go_on as_vector resume said I.start_gradient I.start_shifted I.start_project I.doubled_project I.directed I.first_move I.search I.trial I.first_gradient I.first_project I.tried_gradient I.tried_project
+  unfolding accept replied go_on as_vector resume O.said I.start_gradient I.start_shifted I.start_project I.doubled_project I.directed I.first_move I.search I.trial I.first_gradient I.first_project I.tried_gradient I.tried_project
   vector_short P.Cost v = tt
   vector_short P.Gradient v = tt
   vector_short P.Shifted v = short_cond (finite r.solve.numbers.cost_value && all_finite (opening_of r).gradient) _ _ tt tt
@@ -118,7 +119,7 @@ module _ (r : Run) (few : r.solve.iterations.0 ≤ 10000) where
   vector_short P.Over v = tt
 
   decision_short : (p : Phase) (t : Bool) (v : List Float) → Short (accept (resume r p) (cond t R.Reply.yes R.Reply.no) v)
-  unfolding accept replied go_on as_decision resume said I.timed
+  unfolding accept replied go_on as_decision resume O.said I.timed
   decision_short P.Time true v = step_short set _ _ _
   decision_short P.Time false v = step_short set _ _ _
   decision_short P.Cost true v = tt
@@ -155,7 +156,7 @@ module _ (r : Run) (few : r.solve.iterations.0 ≤ 10000) where
   decision_short P.Over false v = tt
 
   failure_short : (p : Phase) (c : ℕ) (v : List Float) → Short (accept (resume r p) (R.Reply.failure c) v)
-  unfolding accept replied resume said
+  unfolding accept replied resume O.said
   failure_short P.Cost c v = tt
   failure_short P.Gradient c v = tt
   failure_short P.Shifted c v = tt
@@ -182,7 +183,7 @@ module _ (r : Run) (few : r.solve.iterations.0 ≤ 10000) where
   resume_short p (R.Reply.failure c) v = failure_short p c v
 
 over_short : (a : R.Reply) (v : List Float) → Short (accept (stop (refused 6)) a v)
-unfolding accept said
+unfolding accept O.said
 over_short a v = tt
 
 -- whatever is answered

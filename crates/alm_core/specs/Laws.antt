@@ -6,8 +6,7 @@ use Rattle.std.proofs.Math.Bool.{true, false, not, cond}
 use mathlib.Core.List.{List, []}
 use borrow.Author.Tests.{le-leb, leb-true, eq-eqb, ne_eqb, eqb-true}
 use Rattle.std.proofs.Math.Dec.{eqb}
-use Rattle.std.specs.Float.Ieee.{Float, binary64, add, mul, le, of_bits, is_nan, eq, ne, up, down}
-use Rattle.std.specs.Float.{nan, inf, fin}
+use Rattle.std.specs.Float.Ieee.{Float, binary64, add, mul, le, of_bits, is_nan}
 use Rattle.ieee.specs.Numbers.{null, larger}
 use Rattle.ieee.proofs.Special.{zero_bits}
 use Rattle.ieee.specs.Sums.{norm}
@@ -21,7 +20,7 @@ use Rattle.model.specs.Inner as I
 use Rattle.model.specs.Loop as L
 use Rattle.model.specs.Loop.{LoopSettings, LoopState, Found, xi_of, with_multipliers, with_f2}
 use Rattle.model.specs.Refusals.{accept, replied, go_on, as_number, as_vector, as_decision, remains, lent_after, lent_at, loop_plan, loop_xi, plan_of}
-use Rattle.panoc_core.specs.Values.{status_of, exit_status_of, decided, question_of, Step}
+use Rattle.panoc_core.specs.Values.{status_of, exit_status_of, decided, question_of, Says, Step}
 use Rattle.panoc_core.specs.Values as InnerValues
 use Rattle.panoc_core.specs.Board as InnerBoard
 use Rattle.panoc_core.specs.Laws.{and_left, and_right, taken, status_there, status_back}
@@ -31,8 +30,8 @@ use Rattle.panoc_core.specs.declared.panoc_cache.ExitStatus.TheVariants as E
 use Rattle.panoc_core.specs.declared.panoc_cache.Reply.TheVariants.{Number, Vector}
 use Rattle.panoc_core.specs.declared.panoc_cache.Settings.{Settings}
 use Rattle.std.specs.Prelude.{Some}
+use Rattle.panoc_core.specs.declared.panoc_cache.Question.{Question}
 use Rattle.panoc_core.specs.declared.panoc_cache.Question.TheVariants as IQ
-use Rattle.panoc_core.specs.Told as IO
 use Rattle.panoc_core.specs.declared.panoc_cache.SolverStatus.{SolverStatus}
 use Rattle.panoc_core.specs.declared.panoc_cache.Solve.{Solve}
 use Rattle.alm_core.specs.declared.alm_cache.Alm.{Alm}
@@ -42,9 +41,9 @@ use Rattle.alm_core.specs.declared.alm_cache.AlmQuestion.TheVariants as Q
 use Rattle.panoc_core.specs.Told as O
 use Rattle.alm_core.specs.declared.alm_cache.AlmSettings.{AlmSettings}
 use Rattle.alm_core.specs.declared.alm_cache.AlmOptimizerStatus.{AlmOptimizerStatus}
-use Rattle.alm_core.specs.Values.{loop_question, said, ended, LoopStep}
+use Rattle.alm_core.specs.Values.{loop_question, said, LoopStep}
 use Rattle.alm_core.specs.Rest.{LoopBoard, rest, resume, sized, counts, sound, is_last, next_of, state_of, carried_of, found_of, found_y, y_of, y_plus_of, w_of, u_of}
-use Rattle.alm_core.specs.Board.{Ready, Closing, Sound, Comes, Takes, Carries, given, given_xi, set_of, stepped, at_phase, with_status, set_y, set_y_plus, set_w, set_u, set_plus, four, five, six, found_all, settled_y, settled_f2, counted_with, status_at, handed_as}
+use Rattle.alm_core.specs.Board.{Ready, Closing, Sound, Comes, Takes, Carries, given_xi, set_of, stepped, at_phase, with_status, set_y, set_y_plus, set_w, set_u, set_plus, four, five, six, found_all, settled_y, settled_f2, counted_with, status_at, handed_as}
 
 -- ---- sizes and counters in range
 or_right : (a b : Bool) → b ≡ true → (a || b) ≡ true
@@ -121,15 +120,15 @@ rest_over s b e = by (sound s) (ap (resume s b) e)
 module _ (t : Alm) (b : LoopBoard) (r : LoopStep) where
   pub asks_comes : (p : AlmPhase) (q : M.LoopQuestion) (k : Kind) (continue : Answer k → M.Loop) → Sound (at_phase p t) → r ≡ stepped (O.Asked (loop_question q)) p t
       → resume (at_phase p t) b p ≡ ask q k continue → Comes t.set (ask q k continue) r b
-  unfolding said remains lent_after given given_xi
+  unfolding O.said remains lent_after O.given given_xi
   asks_comes p q k continue h e w = rw e (record { settings = refl; outcome = refl; process = rest_sound _ b h ∙ w; plan = λ us. refl; xi = λ xs. refl })
 
   pub stops_comes : (k : ℕ) → r ≡ stepped (O.Refused k) P.Over t → Comes t.set (stop (refused k)) r b
-  unfolding said remains lent_after lent_at given given_xi
+  unfolding O.said remains lent_after lent_at O.given given_xi
   stops_comes k e = rw e (record { settings = refl; outcome = refl; process = rest_over _ b refl; plan = λ us. refl; xi = λ xs. refl })
 
   pub fails_comes : (c : ℕ) → r ≡ stepped (O.Failed c) P.Over t → Comes t.set (stop (failed c)) r b
-  unfolding said remains lent_after lent_at given given_xi
+  unfolding O.said remains lent_after lent_at O.given given_xi
   fails_comes c e = rw e (record { settings = refl; outcome = refl; process = rest_over _ b refl; plan = λ us. refl; xi = λ xs. refl })
 
 -- the same run at another phase, ready as it was
@@ -213,7 +212,7 @@ module _ (s : Alm) (b : LoopBoard) (r : LoopStep) where
   with_solve w = record { phase = s.phase; set = s.set; numbers = s.numbers; left = s.left; outer = s.outer; inner = s.inner; found = s.found; status = s.status; solve = w }
 
   pub inner_goes : (w : Solve) → Ready s → w ≡ InnerBoard.begun inner_set → r ≡ stepped (O.Asked (Q.Inner IQ.Cost)) P.Inner (with_solve w) → Comes s.set (L.inner_solve binary64 (set_of s) (next_of s b) (state_of s b)) r b
-  unfolding L.inner_solve L.inner_settings said remains lent_after given given_xi within I.solve resume sized counts
+  unfolding L.inner_solve L.inner_settings O.said remains lent_after O.given given_xi within I.solve resume sized counts
   inner_goes w h wv e =
       let e' : r ≡ stepped (O.Asked (Q.Inner IQ.Cost)) P.Inner (with_solve (InnerBoard.begun inner_set)) = e ∙ ap (λ (z : Solve). stepped (O.Asked (Q.Inner IQ.Cost)) P.Inner (with_solve z)) wv in
       let ok : Sound (at_phase P.Inner (with_solve (InnerBoard.begun inner_set))) =
@@ -547,32 +546,6 @@ module _ (s : Alm) (b : LoopBoard) (r : LoopStep) (h : Ready s) where
         (subst (λ (k : Bool). Comes s.set (cond k (stop (refused 17)) (L.conclude binary64 (set_of s) M.not_converged_out_of_time (state_of s b))) r b) (sym (ne_eqb _ _ z)) c))
 
 -- ---- the last COST
--- a float that is not NaN equals itself
-not_self : (x : Float) → is_nan x ≡ false → ne x x ≡ false
-unfolding is_nan ne eq
-not_self nan e = absurd (omega (arith, ap {B = ℕ} (λ (c : Bool). cond c 1 0) e))
-not_self (inf true) e = refl
-not_self (inf false) e = refl
-not_self (fin true m k) e = rw (eq-eqb (m * up k * down k) (m * up k * down k) refl)
-not_self (fin false m k) e = rw (eq-eqb (m * up k * down k) (m * up k * down k) refl)
-
-tf : {X : Type 0} → true ≡ false → X
-tf e = absurd (omega (arith, ap {B = ℕ} (λ (c : Bool). cond c 1 0) e))
-
-pub nan_is : (x : Float) → ne x x ≡ true → is_nan x ≡ true
-unfolding is_nan
-nan_is x e = by (is_nan x) refl
-  where
-    by : (t : Bool) → is_nan x ≡ t → is_nan x ≡ true
-    by true q = q
-    by false q = tf (sym e ∙ not_self x q)
-
-pub nan_not : (x : Float) → ne x x ≡ false → is_nan x ≡ false
-unfolding is_nan ne eq
-nan_not nan e = absurd (omega (arith, ap {B = ℕ} (λ (c : Bool). cond c 1 0) e))
-nan_not (inf s) e = refl
-nan_not (fin s m k) e = refl
-
 module _ (s : Alm) (b : LoopBoard) (r : LoopStep) (h : sized s ≡ true) (ph : s.phase ≡ P.LastCost) (x : Float) where
   pub last_delta : is_nan s.numbers.delta_y_norm ≡ true → r ≡ stepped (O.Refused 18) P.Over s → Takes s b (Number x) [] r b
   unfolding resume L.concluded
@@ -583,8 +556,8 @@ module _ (s : Alm) (b : LoopBoard) (r : LoopStep) (h : sized s ≡ true) (ph : s
   last_norm p q e = takes_number s b b r (last_sound s h ph) P.LastCost ph _ _ x refl (rw (p, q) (stops_comes s b r 18 e))
 
   pub last_gives : (st : AlmOptimizerStatus) (t : Alm) → is_nan s.numbers.delta_y_norm ≡ false → is_nan s.numbers.f2_norm ≡ false → st ≡ status_at s x → t ≡ at_phase P.Over s
-      → r ≡ record { outcome = O.Ended st; alm = t } → Takes s b (Number x) [] r b
-  unfolding resume L.concluded said remains lent_after lent_at loop_plan loop_xi given given_xi
+      → r ≡ record { outcome = O.Ended st; state = t } → Takes s b (Number x) [] r b
+  unfolding resume L.concluded O.said remains lent_after lent_at loop_plan loop_xi O.given given_xi
   last_gives st t p q sv tv e =
       takes_number s b b r (last_sound s h ph) P.LastCost ph _ _ x refl
       (rw (p, q, e, sv, tv)
@@ -602,10 +575,10 @@ module _ (xi : List Float) (next : M.Handed → M.Loop) where
   inside p = within (M.LoopQuestion.inner xi) next p
 
   -- a question of the inner solve is carried
-  pub asked_within : (p : M.Solve) (q : Rattle.panoc_core.specs.declared.panoc_cache.Question.Question) → InnerValues.said p ≡ IO.Asked q
+  pub asked_within : (p : M.Solve) (q : Question) → InnerValues.said p ≡ O.Asked q
       → (said (inside p) ≡ O.Asked (Q.Inner q)) × (remains (inside p) ≡ inside (remains p)) × ((give : M.LoopHanded → List Float) (us : List Float) → lent_after give (inside p) us ≡ us)
-  unfolding InnerValues.said said remains within lent_after
-  asked_within (ask q' k c) q e = (let z : question_of q' ≡ q = cc in ap (λ (x : Rattle.panoc_core.specs.declared.panoc_cache.Question.Question). O.Asked (Q.Inner x)) z, refl, λ give us. refl)
+  unfolding O.said remains within lent_after
+  asked_within (ask q' k c) q e = (let z : question_of q' ≡ q = cc in ap (λ (x : Question). O.Asked (Q.Inner x)) z, refl, λ give us. refl)
   asked_within (score h x p) q e = asked_within p q e
   asked_within (begin p) q e = asked_within p q e
   asked_within (stop (handed h)) q e = let z : ◌≡◌ {A = ℕ} 0 1 = cc in absurd (omega arith)
@@ -613,9 +586,9 @@ module _ (xi : List Float) (next : M.Handed → M.Loop) where
   asked_within (stop (failed c)) q e = let z : ◌≡◌ {A = ℕ} 0 1 = cc in absurd (omega arith)
 
   -- a refusal and a failure end the loop
-  pub refused_within : (p : M.Solve) (k : ℕ) → InnerValues.said p ≡ IO.Refused k
+  pub refused_within : (p : M.Solve) (k : ℕ) → InnerValues.said p ≡ O.Refused k
       → (said (inside p) ≡ O.Refused k) × (remains (inside p) ≡ stop (refused 6)) × ((give : M.LoopHanded → List Float) (us : List Float) → lent_after give (inside p) us ≡ us)
-  unfolding InnerValues.said said remains within lent_after lent_at
+  unfolding O.said remains within lent_after lent_at
   refused_within (ask q' k' c) k e = let z : ◌≡◌ {A = ℕ} 0 1 = cc in absurd (omega arith)
   refused_within (score h x p) k e = refused_within p k e
   refused_within (begin p) k e = refused_within p k e
@@ -623,9 +596,9 @@ module _ (xi : List Float) (next : M.Handed → M.Loop) where
   refused_within (stop (refused j)) k e = (let z : j ≡ k = cc in ap O.Refused z, refl, λ give us. refl)
   refused_within (stop (failed c)) k e = let z : ◌≡◌ {A = ℕ} 0 1 = cc in absurd (omega arith)
 
-  pub failed_within : (p : M.Solve) (k : ℕ) → InnerValues.said p ≡ IO.Failed k
+  pub failed_within : (p : M.Solve) (k : ℕ) → InnerValues.said p ≡ O.Failed k
       → (said (inside p) ≡ O.Failed k) × (remains (inside p) ≡ stop (refused 6)) × ((give : M.LoopHanded → List Float) (us : List Float) → lent_after give (inside p) us ≡ us)
-  unfolding InnerValues.said said remains within lent_after lent_at
+  unfolding O.said remains within lent_after lent_at
   failed_within (ask q' k' c) k e = let z : ◌≡◌ {A = ℕ} 0 1 = cc in absurd (omega arith)
   failed_within (score h x p) k e = failed_within p k e
   failed_within (begin p) k e = failed_within p k e
@@ -634,24 +607,19 @@ module _ (xi : List Float) (next : M.Handed → M.Loop) where
   failed_within (stop (failed c)) k e = (let z : c ≡ k = cc in ap O.Failed z, refl, λ give us. refl)
 
   -- where it hands back its plan the loop goes on
-  pub ended_within : (p : M.Solve) (st : SolverStatus) → InnerValues.said p ≡ IO.Ended st
-      → (h : M.Handed) × (InnerValues.ended (handed h) ≡ IO.Ended st) × ((us : List Float) → lent_after plan_of p us ≡ h.plan) × (said (inside p) ≡ said (next h)) × (remains (inside p) ≡ remains (next h)) × ((give : M.LoopHanded → List Float) (us : List Float) → lent_after give (inside p) us ≡ lent_after give (next h) us)
-  unfolding InnerValues.said said remains within lent_after lent_at plan_of
+  pub ended_within : (p : M.Solve) (st : SolverStatus) → InnerValues.said p ≡ O.Ended st
+      → (h : M.Handed) × (InnerValues.end_said h ≡ st) × ((us : List Float) → lent_after plan_of p us ≡ h.plan) × (said (inside p) ≡ said (next h)) × (remains (inside p) ≡ remains (next h)) × ((give : M.LoopHanded → List Float) (us : List Float) → lent_after give (inside p) us ≡ lent_after give (next h) us)
+  unfolding O.said remains within lent_after lent_at plan_of
   ended_within (ask q' k' c) st e = let z : ◌≡◌ {A = ℕ} 0 1 = cc in absurd (omega arith)
   ended_within (score h x p) st e = ended_within p st e
   ended_within (begin p) st e = ended_within p st e
-  ended_within (stop (handed h)) st e = (h, e, λ us. refl, refl, refl, λ give us. refl)
+  ended_within (stop (handed h)) st e = (h, cc, λ us. refl, refl, refl, λ give us. refl)
   ended_within (stop (refused j)) st e = let z : ◌≡◌ {A = ℕ} 0 1 = cc in absurd (omega arith)
   ended_within (stop (failed c)) st e = let z : ◌≡◌ {A = ℕ} 0 1 = cc in absurd (omega arith)
 
--- what an inner solve handed back, by its status
-abbrev status_from : M.Handed → SolverStatus
-status_from h = record { exit_status = exit_status_of h.status; iterations = record { 0 = h.iterations }; norm_fpr = h.norm; cost_value = h.cost }
-
-handed_is : (h : M.Handed) (st : SolverStatus) (w : List Float) → InnerValues.ended (handed h) ≡ IO.Ended st → h.plan ≡ w → handed_as st w ≡ h
+handed_is : (h : M.Handed) (st : SolverStatus) (w : List Float) → InnerValues.end_said h ≡ st → h.plan ≡ w → handed_as st w ≡ h
 handed_is h st w e q =
-    let z : status_from h ≡ st = cc in
-    ap (λ (x : SolverStatus). handed_as x w) (sym z)
+    ap (λ (x : SolverStatus). handed_as x w) (sym e)
     ∙ ap (λ (x : M.Status). record { plan = w; status = x; iterations = h.iterations; norm = h.norm; cost = h.cost }) (status_back h.status)
     ∙ ap (λ (x : List Float). record { plan = x; status = h.status; iterations = h.iterations; norm = h.norm; cost = h.cost }) (sym q)
 
@@ -681,7 +649,7 @@ pub solved_goes : (s : Alm) (b b' : LoopBoard) (w : Solve) (st : SolverStatus) (
 unfolding L.solved
 solved_goes s b b' w st t r tv c = subst (λ (z : Alm). Comes z.set (L.ask_f1 binary64 (set_of z) (next_of z b) (found_of z b)) r b') tv c
 
-module _ (s : Alm) (b : LoopBoard) (r : Step) (o : LoopStep) (h : Ready s) (n≡ : r.solve.set.n ≡ s.set.n) where
+module _ (s : Alm) (b : LoopBoard) (r : Step) (o : LoopStep) (h : Ready s) (n≡ : r.state.set.n ≡ s.set.n) where
   abbrev xis : List Float
   xis = xi_of (set_of s) s.numbers.penalty (y_of s b)
 
@@ -691,13 +659,13 @@ module _ (s : Alm) (b : LoopBoard) (r : Step) (o : LoopStep) (h : Ready s) (n≡
   abbrev held : Solve → Alm
   held w = record { phase = s.phase; set = s.set; numbers = s.numbers; left = s.left; outer = s.outer; inner = s.inner; found = s.found; status = s.status; solve = w }
 
-  held_sound : Sound (at_phase P.Inner (held r.solve))
+  held_sound : Sound (at_phase P.Inner (held r.state))
   unfolding sized
   held_sound =
-      ready_sound (at_phase P.Inner (held r.solve)) (h.0, counts_made (at_phase P.Inner (held r.solve)) (counts_left s h.1) (counts_outer s h.1) (counts_inner s h.1) (counts_found s h.1) n≡)
+      ready_sound (at_phase P.Inner (held r.state)) (h.0, counts_made (at_phase P.Inner (held r.state)) (counts_left s h.1) (counts_outer s h.1) (counts_inner s h.1) (counts_found s h.1) n≡)
 
-  pub carries_asked : (q : Rattle.panoc_core.specs.declared.panoc_cache.Question.Question) → r.outcome ≡ IO.Asked q → o ≡ stepped (O.Asked (Q.Inner q)) P.Inner (held r.solve) → Carries s r b o b
-  unfolding resume given given_xi
+  pub carries_asked : (q : Question) → r.outcome ≡ O.Asked q → o ≡ stepped (O.Asked (Q.Inner q)) P.Inner (held r.state) → Carries s r b o b
+  unfolding resume O.given given_xi
   carries_asked q e w p c =
       let a = asked_within xis onward p q (sym c.outcome ∙ e) in
       rw w
@@ -709,25 +677,25 @@ module _ (s : Alm) (b : LoopBoard) (r : Step) (o : LoopStep) (h : Ready s) (n≡
         xi = λ xs. a.2 (loop_xi (set_of s)) xs;
       })
 
-  pub carries_refused : (k : ℕ) → r.outcome ≡ IO.Refused k → o ≡ stepped (O.Refused k) P.Over s → Carries s r b o b
-  unfolding given given_xi
+  pub carries_refused : (k : ℕ) → r.outcome ≡ O.Refused k → o ≡ stepped (O.Refused k) P.Over s → Carries s r b o b
+  unfolding O.given given_xi
   carries_refused k e w p c =
       let a = refused_within xis onward p k (sym c.outcome ∙ e) in
       rw w (record { settings = refl; outcome = sym a.0; process = rest_over _ b refl ∙ sym a.1; plan = λ us. a.2 loop_plan us; xi = λ xs. a.2 (loop_xi (set_of s)) xs })
 
-  pub carries_failed : (k : ℕ) → r.outcome ≡ IO.Failed k → o ≡ stepped (O.Failed k) P.Over s → Carries s r b o b
-  unfolding given given_xi
+  pub carries_failed : (k : ℕ) → r.outcome ≡ O.Failed k → o ≡ stepped (O.Failed k) P.Over s → Carries s r b o b
+  unfolding O.given given_xi
   carries_failed k e w p c =
       let a = failed_within xis onward p k (sym c.outcome ∙ e) in
       rw w (record { settings = refl; outcome = sym a.0; process = rest_over _ b refl ∙ sym a.1; plan = λ us. a.2 loop_plan us; xi = λ xs. a.2 (loop_xi (set_of s)) xs })
 
-  pub carries_ended : (st : SolverStatus) (b' : LoopBoard) → r.outcome ≡ IO.Ended st
+  pub carries_ended : (st : SolverStatus) (b' : LoopBoard) → r.outcome ≡ O.Ended st
       → Comes s.set (L.solved binary64 (set_of s) (next_of s b) (carried_of s b) (handed_as st (firsts s.set.n b.inner.best))) o b' → Carries s r b o b'
-  unfolding InnerBoard.given
+  unfolding O.given
   carries_ended st b' e k p c =
       let a = ended_within xis onward p st (sym c.outcome ∙ e) in
       let plan≡ : a.0.plan ≡ firsts s.set.n b.inner.best =
-      sym (a.2 []) ∙ c.plan [] ∙ ap (λ (z : Rattle.panoc_core.specs.declared.panoc_cache.Outcome.Outcome). InnerBoard.given z (firsts s.solve.set.n b.inner.best) []) e
+      sym (a.2 []) ∙ c.plan [] ∙ ap (λ (z : Says). O.given z (firsts s.solve.set.n b.inner.best) []) e
       ∙ ap (λ (z : ℕ). firsts z b.inner.best) (ap (λ (z : Settings). z.n) (sym c.settings) ∙ n≡) in
       let h≡ : handed_as st (firsts s.set.n b.inner.best) ≡ a.0 = handed_is a.0 st (firsts s.set.n b.inner.best) a.1 plan≡ in
       let k' = subst (λ (z : M.Handed). Comes s.set (onward z) o b') h≡ k in
