@@ -1,21 +1,18 @@
 -- What the dispatch and the public calls of the loop need: what is wanted at each phase, what an accepted answer is, what a call gives. Assumes nothing.
-use Prim.Native.Nat.{ℕ, zero, suc, ◌*◌, ◌-◌, ◌≤◌, ◌<◌}
+use Prim.Native.Nat.{ℕ, zero, suc, ◌-◌, ◌≤◌, ◌<◌}
 use Rattle.std.proofs.Math.Path.{◌≡◌, refl, sym, ap, subst}
 use Rattle.std.proofs.Common.{◌∙◌, arith}
 use Rattle.std.specs.Prelude.{Bool, ◌&&◌, ◌||◌, ltb, take, drop, set}
 use Rattle.std.proofs.Math.Bool.{true, false, cond}
-use mathlib.Core.List.{List, [], ◌∷◌, ◌++◌}
+use mathlib.Core.List.{List, [], ◌∷◌}
 use Rattle.std.proofs.Math.Option.{Option, none, some}
-use borrow.Author.Tests.{le-leb, lt-leb, leb-true, ltb-true, eq-eqb, ne_eqb, eqb-true}
+use borrow.Author.Tests.{le-leb, leb-true, ltb-true, eqb-true}
 use Rattle.std.proofs.Math.Dec.{leb, eqb}
 use Rattle.std.specs.Float.Ieee.{Float, binary64, of_bits}
 use Rattle.std.proofs.Math.ListN.{length}
-use Rattle.std.proofs.Math.Seq.{take-length, drop-length}
-use borrow.Rule.Slice.PartMut.{put_mid}
 use Rattle.ieee.specs.Numbers.{null}
 use Rattle.ieee.proofs.Special.{zero_bits}
 use Rattle.matrix_operations.specs.Firsts.{firsts}
-use Rattle.matrix_operations.specs.Laws.{length_firsts}
 use Rattle.model.specs.Process.{Kind, Answer, refused, failed, Process, ask, score, begin, stop, within}
 use Rattle.model.specs.Process as M
 use Rattle.model.specs.Loop as L
@@ -34,14 +31,13 @@ use Rattle.panoc_core.specs.declared.panoc_cache.Phase.{Phase}
 use Rattle.panoc_core.specs.declared.panoc_cache.Phase.TheVariants as IP
 use Rattle.panoc_core.specs.declared.panoc_cache.Settings.{Settings}
 use Rattle.std.specs.Prelude.{Some}
-use Rattle.panoc_core.specs.declared.panoc_cache.ExitStatus.TheVariants as E
 use Rattle.panoc_core.specs.declared.panoc_cache.Solve.{Solve}
 use Rattle.panoc_core.specs.declared.panoc_cache.Run.{Run}
 use Rattle.panoc_core.specs.declared.refusals.Wanted.{Wanted}
 use Rattle.std.specs.Prelude as Std
 use Rattle.alm_core.specs.Values.{settings_of, said, LoopSays, LoopStep}
 use Rattle.alm_core.specs.Rest.{LoopBoard, rest, resume, sized, counts, sound, is_last, next_of, state_of, carried_of, y_of}
-use Rattle.alm_core.specs.Board.{Ready, Sound, Comes, Takes, Carries, EndsWithin, given, given_xi, set_of, stepped, four, set_u, set_y, set_y_plus}
+use Rattle.alm_core.specs.Board.{Ready, Sound, Comes, Takes, Carries, EndsWithin, given_xi, set_of, stepped, four, set_u, set_y, set_y_plus}
 use Rattle.alm_core.specs.Laws.{rest_at, rest_over, sized_n, sized_n1, counts_n, counts_made}
 use Rattle.alm_core.specs.Handed.{answer_short}
 use Rattle.alm_core.specs.declared.alm_cache.Alm.{Alm}
@@ -49,6 +45,7 @@ use Rattle.alm_core.specs.declared.alm_cache.AlmPhase.{AlmPhase}
 use Rattle.alm_core.specs.declared.alm_cache.AlmPhase.TheVariants as P
 use Rattle.alm_core.specs.declared.alm_cache.AlmSettings.{AlmSettings}
 use Rattle.panoc_core.specs.Told as O
+use Rattle.panoc_core.specs.Told.{given}
 use Rattle.start_sizes.specs.SizeLaws.{xi_length_lem, xi_short}
 use Rattle.alm_calls.specs.LoopCalls.{wanted_at, wanted_of, run_of, gave, lent_right, xi_given, xi_handed, tolerances_right, factors_right, limits_right, first_alm, Answers, Starts, Begins}
 use Rattle.alm_calls.specs.LoopLaws.{phase_code}
@@ -57,45 +54,9 @@ bit : {X : Type 0} → true ≡ false → X
 bit e = absurd (omega (arith, ap {B = ℕ} (λ (c : Bool). cond c 1 0) e))
 
 -- ---- sizes and counters in range
-pub sized_wide : (s : Alm) → 64 < s.set.n → false ≡ sized s
-unfolding sized
-sized_wide s h = rw (lt-leb _ _ h)
-
-pub sized_wide1 : (s : Alm) → s.set.n ≤ 64 → 32 < s.set.n1 → false ≡ sized s
-unfolding sized
-sized_wide1 s a h = rw (le-leb _ _ a, lt-leb _ _ h)
-
-pub sized_wide2 : (s : Alm) → s.set.n ≤ 64 → s.set.n1 ≤ 32 → 32 < s.set.n2 → false ≡ sized s
-unfolding sized
-sized_wide2 s a b h = rw (le-leb _ _ a, le-leb _ _ b, lt-leb _ _ h)
-
 pub sized_is : (s : Alm) → s.set.n ≤ 64 → s.set.n1 ≤ 32 → s.set.n2 ≤ 32 → leb s.set.max_inner_iterations 10000 ≡ sized s
 unfolding sized
 sized_is s a b c = rw (le-leb _ _ a, le-leb _ _ b, le-leb _ _ c)
-
-module _ (s : Alm) where
-  pub counts_far : 999 < s.left → false ≡ counts s
-  unfolding counts
-  counts_far h = rw (lt-leb _ _ h)
-
-  module _ (a : s.left ≤ 999) where
-    pub counts_many : 999 - s.left < s.outer.0 → false ≡ counts s
-    unfolding counts
-    counts_many h = rw (le-leb _ _ a, lt-leb _ _ h)
-
-    module _ (b : s.outer.0 ≤ 999 - s.left) where
-      pub counts_more : 10000 * s.outer.0 < s.inner.0 → false ≡ counts s
-      unfolding counts
-      counts_more h = rw (le-leb _ _ a, le-leb _ _ b, lt-leb _ _ h)
-
-      module _ (c : s.inner.0 ≤ 10000 * s.outer.0) where
-        pub counts_last : 10000 < s.found.0 → false ≡ counts s
-        unfolding counts
-        counts_last h = rw (le-leb _ _ a, le-leb _ _ b, le-leb _ _ c, lt-leb _ _ h)
-
-        pub counts_is : s.found.0 ≤ 10000 → eqb s.solve.set.n s.set.n ≡ counts s
-        unfolding counts
-        counts_is h = rw (le-leb _ _ a, le-leb _ _ b, le-leb _ _ c, le-leb _ _ h)
 
 pub sound_last : (s : Alm) (t : Bool) → t ≡ sized s → t ≡ true → s.phase ≡ P.LastCost → true ≡ sound s
 unfolding sound
@@ -348,7 +309,7 @@ module _ (s : Alm) (b : LoopBoard) (a : Reply) (v : List Float) (r : Step) (i : 
   pub inner_ready : Ready s
   inner_ready = sound_ready s P.Inner inner_sound ph refl
 
-  pub inner_n : r.solve.set.n ≡ s.set.n
+  pub inner_n : r.state.set.n ≡ s.set.n
   inner_n = ap (λ (z : Settings). z.n) t.settings ∙ counts_n s inner_ready.1
 
   pub inner_ends : EndsWithin r.outcome
@@ -367,12 +328,6 @@ module _ (s : Alm) (b : LoopBoard) (a : Reply) (v : List Float) (r : Step) (i : 
       (k (record { inner = i; y = b.y; y_plus = b.y_plus; w = b.w }) (accept (InnerRest.rest (InnerBoard.run_of s.solve b.inner)) (reply_of a) v) t)
 
 -- ---- the lent places
-pub lent_fits : (s : AlmSettings) (us xs : ℕ) (t : Bool) → us ≡ s.n → t ≡ eqb xs (xi_length s.n1 s.n2) → t ≡ lent_right s us xs
-lent_fits s us xs t e q = q ∙ sym (ap (λ (c : Bool). c && eqb xs (xi_length s.n1 s.n2)) (eq-eqb _ _ e))
-
-pub lent_not : (s : AlmSettings) (us xs : ℕ) → (us ≡ s.n → ⊥) → false ≡ lent_right s us xs
-lent_not s us xs e = sym (ap (λ (c : Bool). c && eqb xs (xi_length s.n1 s.n2)) (ne_eqb _ _ e))
-
 lent_both : (s : AlmSettings) (us xs : ℕ) → lent_right s us xs ≡ true → (us ≡ s.n) × (xs ≡ xi_length s.n1 s.n2)
 lent_both s us xs e = by (eqb us s.n) (eqb xs (xi_length s.n1 s.n2)) refl refl e
   where
@@ -404,41 +359,6 @@ xi_handed_lem s (O.Asked q) y xs e = refl
 xi_handed_lem s (O.Ended st) y xs e = xi_at s st.penalty y xs e
 xi_handed_lem s (O.Refused k) y xs e = refl
 xi_handed_lem s (O.Failed c) y xs e = refl
-
-one_less : (n : ℕ) → suc n - 1 ≡ n
-one_less n = omega arith
-
-pub xi_empty : (c : Float) (y xs : List Float) → length xs ≡ 0 → xs ≡ xi_given c y xs
-unfolding xi_given
-xi_empty c y [] e = refl
-xi_empty c y (x ∷ xs) e = absurd (omega arith)
-
-pub xi_filled : (c : Float) (y xs xs' : List Float) → (length xs ≡ 0 → ⊥) → xs' ≡ c ∷ firsts (length xs - 1) y → xs' ≡ xi_given c y xs
-unfolding xi_given
-xi_filled c y [] xs' h e = absurd (h refl)
-xi_filled c y (x ∷ xs) xs' h e = e ∙ ap (λ (k : ℕ). c ∷ firsts k y) (one_less (length xs))
-
-append_end : {A : Type 0} (xs : List A) → xs ++ [] ≡ xs
-append_end [] = refl
-append_end (x ∷ xs) = ap (λ t. x ∷ t) (append_end xs)
-
--- a slice whose place 0 is stored and whose part from place 1 on is lent
-pub tail_length : (xi : List Float) (c : Float) → 1 ≤ length xi → length (take (length (set xi 0 c) - 1) (drop 1 (set xi 0 c))) ≡ length xi - 1
-tail_length [] c h = absurd (omega arith)
-tail_length (x ∷ t) c h = let k : suc (length t) - 1 ≡ length t = omega arith in rw (k, take-length t)
-
-pub tail_lent : (xi : List Float) (c : Float) (y ys : List Float) → 1 ≤ length xi → ys ≡ firsts (length (take (length (set xi 0 c) - 1) (drop 1 (set xi 0 c)))) y
-    → put_mid 1 (length (set xi 0 c) - 1) (set xi 0 c) ys ≡ c ∷ firsts (length xi - 1) y
-tail_lent [] c y ys h e = absurd (omega arith)
-tail_lent (x ∷ t) c y ys h e =
-    let k : suc (length t) - 1 ≡ length t = omega arith in
-    let l : length (take (suc (length t) - 1) t) ≡ suc (length t) - 1 = rw (k, take-length t) in
-    let w : ys ≡ firsts (suc (length t) - 1) y = e ∙ ap (λ (m : ℕ). firsts m y) l in
-    rw (k, drop-length t, append_end ys) (ap (λ (z : List Float). c ∷ z) (w ∙ ap (λ (m : ℕ). firsts m y) k))
-
-pub tail_same : (xi : List Float) (c : Float) (y ys : List Float) → 1 ≤ length xi → ys ≡ firsts (length (take (length (set xi 0 c) - 1) (drop 1 (set xi 0 c)))) y
-    → length (put_mid 1 (length (set xi 0 c) - 1) (set xi 0 c) ys) ≡ length xi
-tail_same xi c y ys h e = let l = length_firsts (length xi - 1) y in ap length (tail_lent xi c y ys h e) ∙ omega (arith, l)
 
 -- ---- answer
 module _ (s : Alm) (b : LoopBoard) (a : Reply) (v us xs : List Float) (m : ℕ) (t : Bool) (te : t ≡ lent_right s.set (length us) (length xs)) (e : m ≡ answer_refusal (wanted_of s) (reply_of a) (length v) t) where
@@ -475,7 +395,7 @@ module _ (s : Alm) (b : LoopBoard) (a : Reply) (v us xs : List Float) (m : ℕ) 
         };
       }
 
-  pub answer_refused : (m ≡ 0 → ⊥) → Answers (run_of s b) a v us us xs xs (gave (record { outcome = O.Refused m; alm = s }) b)
+  pub answer_refused : (m ≡ 0 → ⊥) → Answers (run_of s b) a v us us xs xs (gave (record { outcome = O.Refused m; state = s }) b)
   answer_refused z =
       record { refused = λ j q. (ap O.Refused (sym refusal_is ∙ q), refl, refl, refl); accepted = λ q. absurd (z (sym refusal_is ∙ q)) }
 
@@ -486,13 +406,6 @@ pub not_inner : (s : Alm) (p : AlmPhase) → s.phase ≡ p → phase_code p ≡ 
 not_inner s p e z q = omega (arith, ap phase_code (sym e ∙ q), z)
 
 -- ---- the start's tests
--- both of two tests, one behind the other
-pub both_is : (a b : Bool) {c d : Bool} → a ≡ c → a ≡ true → b ≡ d → b ≡ (c && d)
-both_is a b {c} {d} e q w = w ∙ sym (ap (λ (t : Bool). t && d) (sym e ∙ q))
-
-pub both_not : (a : Bool) {c : Bool} (d : Bool) → a ≡ c → a ≡ false → false ≡ (c && d)
-both_not a {c} d e q = sym (ap (λ (t : Bool). t && d) (sym e ∙ q))
-
 and_four : (a b c d e : Bool) → (a && (b && (c && (d && e)))) ≡ ((a && (b && (c && d))) && e)
 and_four true true true d e = refl
 and_four true true false d e = refl
@@ -646,7 +559,7 @@ module _ (s : AlmSettings) (us : ℕ) (xi : List Float) (e : R.loop_refusal bina
 
 pub start_refuses : (s : AlmSettings) (plan xi : List Float) (m : ℕ) (b : LoopBoard) (r : LoopStep) (t : Alm) (c : Float) → m ≡ R.loop_refusal binary64 (settings_of s) (length plan) xi → (m ≡ 0 → ⊥)
     → t ≡ first_alm s c 0 → r ≡ stepped (O.Refused m) P.Over t → Begins s plan xi r b
-unfolding R.start_loop R.or_refused said remains
+unfolding R.start_loop R.or_refused O.said remains
 start_refuses s plan xi m b r t c e z tv w = by m e z (w ∙ ap (stepped (O.Refused m) P.Over) tv)
   where
     by : (k : ℕ) → k ≡ R.loop_refusal binary64 (settings_of s) (length plan) xi → (k ≡ 0 → ⊥) → r ≡ stepped (O.Refused k) P.Over (first_alm s c 0) → Begins s plan xi r b
@@ -657,8 +570,3 @@ start_refuses s plan xi m b r t c e z tv w = by m e z (w ∙ ap (stepped (O.Refu
 
 pub starts : (s : AlmSettings) (us xi : List Float) (r : LoopStep) (u y z : List Float) → ((b : LoopBoard) → Begins s us xi r (set_u u (set_y y (set_y_plus z b)))) → (b : LoopBoard) → Starts s us xi (gave r (set_u u (set_y y (set_y_plus z b))))
 starts s us xi r u y z f b = record { settings = (f b).settings; outcome = (f b).outcome; process = (f b).process }
-
--- the small part before the first iteration
-pub first_is : (s : AlmSettings) (c : Float) (l : ℕ) (w : Solve) → w ≡ InnerBoard.begun (record { n = s.n; max_iter = s.max_inner_iterations; limited = s.limited; tolerance = s.tolerance; akkt_tolerance = Some s.initial_inner_tolerance })
-    → ◌≡◌ {A = Alm} (record { phase = P.Over; set = s; numbers = (first_alm s c l).numbers; left = l; outer = record { 0 = 0 }; inner = record { 0 = 0 }; found = record { 0 = 0 }; status = E.Converged; solve = w }) (first_alm s c l)
-first_is s c l w e = ap (λ (z : Solve). record { phase = P.Over; set = s; numbers = (first_alm s c l).numbers; left = l; outer = record { 0 = 0 }; inner = record { 0 = 0 }; found = record { 0 = 0 }; status = E.Converged; solve = z }) e

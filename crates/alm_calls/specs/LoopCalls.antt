@@ -65,7 +65,7 @@ run_of s b =
     }
 
 abbrev pub gave : LoopStep → LoopBoard → LoopGave
-gave r b = record { outcome = r.outcome; run = run_of r.alm b }
+gave r b = record { outcome = r.outcome; run = run_of r.state b }
 
 abbrev pub rest_of : AlmRun → Loop
 rest_of r = rest r.alm (board_of r)
@@ -106,9 +106,9 @@ pub record Starts (s : AlmSettings) (u xi : List Float) (r : LoopGave) : Type 0 
   pub process : rest_of r.run ≡ remains (start_loop binary64 (settings_of s) u xi)
 
 pub record Begins (s : AlmSettings) (u xi : List Float) (r : LoopStep) (b : LoopBoard) : Type 0 where
-  pub settings : r.alm.set ≡ s
+  pub settings : r.state.set ≡ s
   pub outcome : r.outcome ≡ said (start_loop binary64 (settings_of s) u xi)
-  pub process : rest r.alm b ≡ remains (start_loop binary64 (settings_of s) u xi)
+  pub process : rest r.state b ≡ remains (start_loop binary64 (settings_of s) u xi)
 
 -- the question that a process asks
 unfoldable pub asking : Loop → Option M.LoopQuestion
