@@ -12,8 +12,7 @@ use Rattle.panoc_core.specs.Board.{Lent}
 use Rattle.panoc_core.specs.Board as Inner
 use Rattle.panoc_core.specs.declared.panoc_cache.Reply.{Reply}
 use Rattle.panoc_core.specs.declared.panoc_cache.ExitStatus.TheVariants.{Converged}
-use Rattle.std.specs.Prelude.{Some}
-use Rattle.alm_core.specs.Values.{settings_of, said, first_point, second_point, LoopGave, LoopSays, LoopStep}
+use Rattle.alm_core.specs.Values.{settings_of, inner_given, said, first_point, second_point, LoopGave, LoopSays, LoopStep}
 use Rattle.alm_core.specs.Rest.{LoopBoard, rest, sound}
 use Rattle.alm_core.specs.declared.alm_cache.Alm.{Alm}
 use Rattle.alm_core.specs.declared.alm_cache.AlmPhase.{AlmPhase}
@@ -162,5 +161,5 @@ first_alm s c l =
       inner = record { 0 = 0 };
       found = record { 0 = 0 };
       status = Converged;
-      solve = Inner.begun (record { n = s.n; max_iter = s.max_inner_iterations; limited = s.limited; tolerance = s.tolerance; akkt_tolerance = Some s.initial_inner_tolerance });
+      solve = Inner.begun (inner_given s s.initial_inner_tolerance);
     }

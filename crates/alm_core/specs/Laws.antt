@@ -41,7 +41,7 @@ use Rattle.alm_core.specs.declared.alm_cache.AlmQuestion.TheVariants as Q
 use Rattle.panoc_core.specs.Told as O
 use Rattle.alm_core.specs.declared.alm_cache.AlmSettings.{AlmSettings}
 use Rattle.alm_core.specs.declared.alm_cache.AlmOptimizerStatus.{AlmOptimizerStatus}
-use Rattle.alm_core.specs.Values.{loop_question, said, LoopStep}
+use Rattle.alm_core.specs.Values.{loop_question, said, inner_given, LoopStep}
 use Rattle.alm_core.specs.Rest.{LoopBoard, rest, resume, sized, counts, sound, is_last, next_of, state_of, carried_of, found_of, found_y, y_of, y_plus_of, w_of, u_of}
 use Rattle.alm_core.specs.Board.{Ready, Closing, Sound, Comes, Takes, Carries, given_xi, set_of, stepped, at_phase, with_status, set_y, set_y_plus, set_w, set_u, set_plus, four, five, six, found_all, settled_y, settled_f2, counted_with, status_at, handed_as}
 
@@ -206,7 +206,7 @@ module _ (s : Alm) (b : LoopBoard) (r : LoopStep) where
 
   -- an inner run that begins at u
   abbrev inner_set : Settings
-  inner_set = record { n = s.set.n; max_iter = s.set.max_inner_iterations; limited = s.set.limited; tolerance = s.set.tolerance; akkt_tolerance = Some s.numbers.akkt_tolerance }
+  inner_set = inner_given s.set s.numbers.akkt_tolerance
 
   abbrev with_solve : Solve → Alm
   with_solve w = record { phase = s.phase; set = s.set; numbers = s.numbers; left = s.left; outer = s.outer; inner = s.inner; found = s.found; status = s.status; solve = w }

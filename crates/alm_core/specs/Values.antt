@@ -1,5 +1,6 @@
 -- What the loop's enums and records stand for in document 01's terms. Definitions only.
-use Rattle.std.specs.Prelude.{List, [], Float}
+use Rattle.std.specs.Prelude.{List, [], Float, Some}
+use Rattle.panoc_core.specs.declared.panoc_cache.Settings.{Settings}
 use Rattle.model.specs.Process.{LoopHanded}
 use Rattle.model.specs.Process as M
 use Rattle.model.specs.Loop.{LoopSettings}
@@ -35,6 +36,10 @@ settings_of s =
       epsilon_factor = s.epsilon_update_factor;
       coefficient = s.sufficient_decrease_coeff;
     }
+
+-- the settings of an inner solve, with this AKKT tolerance
+abbrev pub inner_given : AlmSettings → Float → Settings
+inner_given s t = record { n = s.n; max_iter = s.max_inner_iterations; limited = s.limited; tolerance = s.tolerance; akkt_tolerance = Some t }
 
 -- a question, less its points; xi is a point of COST and GRADIENT
 abbrev pub loop_question : M.LoopQuestion → AlmQuestion

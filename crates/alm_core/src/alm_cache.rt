@@ -1,6 +1,9 @@
 // The records of the multiplier loop: what it is given, where it stands, its vectors.
+ghost use Rattle.std.specs.Prelude.{◌≡◌};
+ghost use Rattle.alm_core.specs.Values.{inner_given};
+
 use panoc_core::outcome::{Answered, Outcome, Stepped};
-use panoc_core::panoc_cache::{ExitStatus, InnerIterations, Question, Solve};
+use panoc_core::panoc_cache::{ExitStatus, InnerIterations, Question, Settings, Solve};
 
 // A count of outer iterations; an inner count is another type.
 #[derive(Clone, Copy, Debug, PartialEq, Eq)]
@@ -24,6 +27,21 @@ pub struct AlmSettings {
     pub penalty_update_factor: f64,
     pub epsilon_update_factor: f64,
     pub sufficient_decrease_coeff: f64,
+}
+
+impl AlmSettings {
+    // What an inner solve is given, with this AKKT tolerance.
+    pub fn inner(self, akkt_tolerance: f64) -> Settings
+        ensures { result ≡ inner_given self akkt_tolerance }
+    {
+        Settings {
+            n: self.n,
+            max_iter: self.max_inner_iterations,
+            limited: self.limited,
+            tolerance: self.tolerance,
+            akkt_tolerance: Some(akkt_tolerance),
+        }
+    }
 }
 
 // The running numbers: c, the AKKT tolerance of the inner solve, the infeasibilities of the iteration before and of this one, the norm

@@ -5,19 +5,12 @@ ghost use Rattle.std.specs.Prelude.{◌≡◌};
 ghost use Rattle.alm_calls.specs.LoopCalls.{first_alm};
 
 use alm_core::alm_cache::{Alm, AlmNumbers, AlmPhase, AlmSettings, OuterIterations};
-use panoc_core::panoc_cache::{ExitStatus, InnerIterations, Settings};
+use panoc_core::panoc_cache::{ExitStatus, InnerIterations};
 
 // The small part of a run before its first outer iteration, with so many left after it.
 pub fn first(set: AlmSettings, penalty: f64, left: usize) -> Alm
     ensures { result ≡ first_alm set penalty left }
 {
-    let inner_set = Settings {
-        n: set.n,
-        max_iter: set.max_inner_iterations,
-        limited: set.limited,
-        tolerance: set.tolerance,
-        akkt_tolerance: Some(set.initial_inner_tolerance),
-    };
     let numbers = AlmNumbers {
         penalty,
         akkt_tolerance: set.initial_inner_tolerance,
@@ -36,6 +29,6 @@ pub fn first(set: AlmSettings, penalty: f64, left: usize) -> Alm
         inner: InnerIterations(0),
         found: InnerIterations(0),
         status: ExitStatus::Converged,
-        solve: panoc_starts::begin(inner_set),
+        solve: panoc_starts::begin(set.inner(set.initial_inner_tolerance)),
     }
 }

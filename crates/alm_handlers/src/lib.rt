@@ -1,17 +1,22 @@
-// The handlers of the loop's own questions.
+// The handlers of the loop's own questions. The vectors are lent one by one: C lends each as an array of its own, and of a struct of references
+// the proof of what a call writes into its own arguments did not close.
 #![tactic(auto)]
 
 ghost use Rattle.std.specs.Prelude.{◌≡◌, true, [], length};
 ghost use Rattle.model.specs.Loop as L;
+ghost use Rattle.panoc_core.specs.Told.{told};
 ghost use Rattle.panoc_core.specs.Values.{decided};
 ghost use Rattle.alm_core.specs.Rest.{LoopBoard, sized};
 ghost use Rattle.alm_core.specs.Board.{Ready, Takes, status_at, set_of, set_y, set_y_plus, set_w, five, six};
 ghost use Rattle.panoc_core.specs.declared.panoc_cache.Reply.TheVariants.{Vector, Number};
 
-use alm_core::alm_cache::{Alm, AlmOptimizerStatus, AlmOutcome, AlmPhase, AlmQuestion, AlmStepped};
-use alm_core::alm_steps::{asks, at_phase, conclude, stops};
+use alm_core::alm_cache::{
+    Alm, AlmNumbers, AlmOptimizerStatus, AlmOutcome, AlmPhase, AlmQuestion, AlmStepped,
+};
+use alm_core::alm_steps::{conclude, to};
 use alm_iterations::{inner_solve, iteration};
 use alm_weigh::{ask_f2, weigh};
+use panoc_core::outcome::Refusal;
 use panoc_core::panoc_cache::ExitStatus;
 
 // F2 at the plan is v.
@@ -25,13 +30,14 @@ pub fn on_f2(
     plus: &[f64; 64],
 ) -> AlmStepped
     requires { (Ready s) × (s.phase ≡ AlmPhase.F2) × (length v.now ≡ s.set.n2) }
-    ensures { (b : LoopBoard) → Takes s (five u.old scratch.old best.now y.old plus.now b) Vector v.now result (five u.new scratch.new best.now y.new plus.now b) }
+    ensures { (b : LoopBoard) → Takes s (five u.old scratch.old best.now y.old plus.now b) Vector v.now (told result) (five u.new scratch.new best.now y.new plus.now b) }
 {
     vector_copies::take_into(v, scratch);
-    let norm = matrix_operations::norm2(scratch, s.set.n2);
-    let mut t = s;
-    t.numbers.f2_norm_plus = norm;
-    weigh(t, u, best, y, plus)
+    let numbers = AlmNumbers {
+        f2_norm_plus: matrix_operations::norm2(scratch, s.set.n2),
+        ..s.numbers
+    };
+    weigh(Alm { numbers, ..s }, u, best, y, plus)
 }
 
 // F1 at the plan is v: the projection on C is asked at F1 + y / c.
@@ -43,11 +49,15 @@ pub fn on_f1(
     w: &mut [f64; 64],
 ) -> AlmStepped
     requires { (Ready s) × (s.phase ≡ AlmPhase.F1) × (length v.now ≡ s.set.n1) }
-    ensures { (b : LoopBoard) → Takes s (set_y y.now (set_y_plus plus.old (set_w w.old b))) Vector v.now result (set_y y.now (set_y_plus plus.new (set_w w.new b))) }
+    ensures { (b : LoopBoard) → Takes s (set_y y.now (set_y_plus plus.old (set_w w.old b))) Vector v.now (told result) (set_y y.now (set_y_plus plus.new (set_w w.new b))) }
 {
     vector_copies::take_into(v, w);
     vector_updates::plus_over_into(s.numbers.penalty, w, y, plus, s.set.n1);
-    asks(s, AlmPhase::ProjectC, AlmQuestion::ProjectC)
+    to(
+        s,
+        AlmPhase::ProjectC,
+        AlmOutcome::Asked(AlmQuestion::ProjectC),
+    )
 }
 
 // The projection on C is v: y_plus = y + c × (F1 - v), and its distance from y.
@@ -62,21 +72,21 @@ pub fn on_project_c(
     w: &[f64; 64],
 ) -> AlmStepped
     requires { (Ready s) × (s.phase ≡ AlmPhase.ProjectC) × (length v.now ≡ s.set.n1) }
-    ensures { (b : LoopBoard) → Takes s (six u.old scratch.old best.now y.old plus.old w.now b) Vector v.now result (six u.new scratch.new best.now y.new plus.new w.now b) }
+    ensures { (b : LoopBoard) → Takes s (six u.old scratch.old best.now y.old plus.old w.now b) Vector v.now (told result) (six u.new scratch.new best.now y.new plus.new w.now b) }
 {
-    let n1 = s.set.n1;
     vector_copies::take_into(v, scratch);
-    multiplier_updates::multipliers_into(s.numbers.penalty, y, w, scratch, plus, n1);
-    let delta = matrix_operations::norm2_diff(plus, y, n1);
-    let mut t = s;
-    t.numbers.delta_y_norm_plus = delta;
-    ask_f2(t, u, best, y, plus)
+    multiplier_updates::multipliers_into(s.numbers.penalty, y, w, scratch, plus, s.set.n1);
+    let numbers = AlmNumbers {
+        delta_y_norm_plus: matrix_operations::norm2_diff(plus, y, s.set.n1),
+        ..s.numbers
+    };
+    ask_f2(Alm { numbers, ..s }, u, best, y, plus)
 }
 
 // The projection of y on Y is v.
 pub fn on_project_y(s: Alm, v: &[f64], y: &mut [f64; 64]) -> AlmStepped
     requires { (Ready s) × (s.phase ≡ AlmPhase.ProjectY) × (length v.now ≡ s.set.n1) }
-    ensures { (b : LoopBoard) → Takes s (set_y y.old b) Vector v.now result (set_y y.new b) }
+    ensures { (b : LoopBoard) → Takes s (set_y y.old b) Vector v.now (told result) (set_y y.new b) }
 {
     vector_copies::take_into(v, y);
     inner_solve(s)
@@ -85,12 +95,12 @@ pub fn on_project_y(s: Alm, v: &[f64], y: &mut [f64; 64]) -> AlmStepped
 // TIME is answered yes or no.
 pub fn on_time(s: Alm, yes: bool) -> AlmStepped
     requires { (Ready s) × (s.phase ≡ AlmPhase.Time) }
-    ensures { (b : LoopBoard) → Takes s b (decided yes) [] result b }
+    ensures { (b : LoopBoard) → Takes s b (decided yes) [] (told result) b }
 {
     if yes {
         iteration(s)
     } else if s.outer.0 == 0 {
-        stops(s, 17)
+        to(s, AlmPhase::Over, AlmOutcome::Refused(Refusal::OutOfTime))
     } else {
         conclude(s, ExitStatus::NotConvergedOutOfTime)
     }
@@ -99,15 +109,16 @@ pub fn on_time(s: Alm, yes: bool) -> AlmStepped
 // The last COST is x, taken unchecked.
 pub fn on_last_cost(s: Alm, x: f64) -> AlmStepped
     requires { (sized s ≡ true) × (s.phase ≡ AlmPhase.LastCost) }
-    ensures { (b : LoopBoard) → Takes s b (Number x) [] result b }
+    ensures { (b : LoopBoard) → Takes s b (Number x) [] (told result) b }
 {
     if s.numbers.delta_y_norm.is_nan() || s.numbers.f2_norm.is_nan() {
-        return stops(s, 18);
+        return to(
+            s,
+            AlmPhase::Over,
+            AlmOutcome::Refused(Refusal::Infeasibility),
+        );
     }
-    AlmStepped {
-        outcome: AlmOutcome::Ended(handed_back(s, x)),
-        alm: at_phase(s, AlmPhase::Over),
-    }
+    to(s, AlmPhase::Over, AlmOutcome::Ended(handed_back(s, x)))
 }
 
 // What is handed back with the plan and the multipliers; c is 0 where xi is empty.

@@ -1,15 +1,17 @@
-// What the inner solve has come to, carried out by the loop.
+// What the inner solve has come to, carried out by the loop. The vectors are lent one by one: C lends each as an array of its own, and of a struct of
+// references the proof of what a call writes into its own arguments did not close.
 #![tactic(auto)]
 
 ghost use Rattle.std.specs.Prelude.{◌≡◌, ◌≤◌};
 ghost use Rattle.std.specs.Float.{binary64};
 ghost use Rattle.model.specs.Loop as L;
 ghost use Rattle.matrix_operations.specs.Firsts.{firsts};
+ghost use Rattle.panoc_core.specs.Told.{numbered, told};
 ghost use Rattle.alm_core.specs.Rest.{LoopBoard, next_of, carried_of};
 ghost use Rattle.alm_core.specs.Board.{Ready, Comes, Carries, EndsWithin, handed_as, set_of, four};
 
-use alm_core::alm_cache::{Alm, AlmPhase, AlmQuestion, AlmStepped};
-use alm_core::alm_steps::{asks, fails, stops};
+use alm_core::alm_cache::{Alm, AlmNumbers, AlmOutcome, AlmPhase, AlmQuestion, AlmStepped};
+use alm_core::alm_steps::to;
 use alm_weigh::ask_f1;
 use panoc_core::panoc_cache::{Outcome, SolverStatus, Stepped};
 
@@ -23,17 +25,21 @@ pub fn on_solved(
     y: &mut [f64; 64],
     plus: &[f64; 64],
 ) -> AlmStepped
-    requires { (Ready s) × (r.solve.set.n ≡ s.set.n) × (status.iterations.0 ≤ 10000) }
-    ensures { (b : LoopBoard) → Comes s.set (L.solved binary64 (set_of s) (next_of s (four u.old best.now y.old plus.now b)) (carried_of s (four u.old best.now y.old plus.now b)) (handed_as status (firsts s.set.n best.now))) result (four u.new best.now y.new plus.now b) }
+    requires { (Ready s) × (r.state.set.n ≡ s.set.n) × (status.iterations.0 ≤ 10000) }
+    ensures { (b : LoopBoard) → Comes s.set (L.solved binary64 (set_of s) (next_of s (four u.old best.now y.old plus.now b)) (carried_of s (four u.old best.now y.old plus.now b)) (handed_as status (firsts s.set.n best.now))) (told result) (four u.new best.now y.new plus.now b) }
 {
-    let mut t = Alm {
-        solve: r.solve,
+    let numbers = AlmNumbers {
+        norm_fpr: status.norm_fpr,
+        ..s.numbers
+    };
+    let solved = Alm {
+        solve: r.state,
+        numbers,
         found: status.iterations,
         status: status.exit_status,
         ..s
     };
-    t.numbers.norm_fpr = status.norm_fpr;
-    ask_f1(t, u, best, y, plus)
+    ask_f1(solved, u, best, y, plus)
 }
 
 // What the inner solve has come to is carried out.
@@ -45,19 +51,20 @@ pub fn on_inner(
     y: &mut [f64; 64],
     plus: &[f64; 64],
 ) -> AlmStepped
-    requires { (Ready s) × (r.solve.set.n ≡ s.set.n) × (EndsWithin r.outcome) }
-    ensures { (b : LoopBoard) → Carries s r (four u.old best.now y.old plus.now b) result (four u.new best.now y.new plus.now b) }
+    requires { (Ready s) × (r.state.set.n ≡ s.set.n) × (EndsWithin (numbered r.outcome)) }
+    ensures { (b : LoopBoard) → Carries s (told r) (four u.old best.now y.old plus.now b) (told result) (four u.new best.now y.new plus.now b) }
 {
     match r.outcome {
-        Outcome::Asked(q) => {
-            let t = Alm {
-                solve: r.solve,
+        Outcome::Asked(question) => to(
+            Alm {
+                solve: r.state,
                 ..s
-            };
-            asks(t, AlmPhase::Inner, AlmQuestion::Inner(q))
-        }
+            },
+            AlmPhase::Inner,
+            AlmOutcome::Asked(AlmQuestion::Inner(question)),
+        ),
         Outcome::Ended(status) => on_solved(s, r, status, u, best, y, plus),
-        Outcome::Refused(k) => stops(s, k),
-        Outcome::Failed(c) => fails(s, c),
+        Outcome::Refused(refusal) => to(s, AlmPhase::Over, AlmOutcome::Refused(refusal)),
+        Outcome::Failed(code) => to(s, AlmPhase::Over, AlmOutcome::Failed(code)),
     }
 }

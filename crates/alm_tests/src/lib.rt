@@ -17,14 +17,14 @@ pub fn multipliers_settled(s: Alm) -> bool
     s.set.n1 == 0
         || (s.outer.0 != 0
             && s.numbers.delta_y_norm_plus
-                <= s.numbers.penalty * s.set.delta_tolerance + 2.220446049250313e-16)
+                <= s.numbers.penalty * s.set.delta_tolerance + f64::EPSILON)
 }
 
 // |F2| ≤ δ + 2^-52, where n2 > 0.
 pub fn mapping_settled(s: Alm) -> bool
     ensures { result ≡ settled_f2 s }
 {
-    s.set.n2 == 0 || s.numbers.f2_norm_plus <= s.set.delta_tolerance + 2.220446049250313e-16
+    s.set.n2 == 0 || s.numbers.f2_norm_plus <= s.set.delta_tolerance + f64::EPSILON
 }
 
 // The exit test of an outer iteration.
@@ -33,14 +33,14 @@ pub fn is_exit_criterion_satisfied(s: Alm) -> bool
 {
     multipliers_settled(s)
         && mapping_settled(s)
-        && s.numbers.akkt_tolerance <= s.set.epsilon_tolerance + 2.220446049250313e-16
+        && s.numbers.akkt_tolerance <= s.set.epsilon_tolerance + f64::EPSILON
 }
 
 // Whether an infeasibility is ≤ coefficient × the former + 2^-52.
 pub fn decreased(s: Alm, norm: f64, former: f64) -> bool
     ensures { result ≡ L.decreased binary64 (set_of s) norm former }
 {
-    norm <= s.set.sufficient_decrease_coeff * former + 2.220446049250313e-16
+    norm <= s.set.sufficient_decrease_coeff * former + f64::EPSILON
 }
 
 // Whether each infeasibility present has decreased; with neither present none has.

@@ -1,13 +1,17 @@
-// The weighing of an outer iteration, and what is asked before it.
+// The weighing of an outer iteration, and what is asked before it. `ask_f2` and `ask_f1` are alike, but leave out another mapping and go on to
+// another function: one function for both would take the size, the phase, the question, the numbers without it and what follows.
+// The vectors are lent one by one: C lends each as an array of its own, and of a struct of references the proof of what a call writes into its own
+// arguments did not close.
 #![tactic(auto)]
 
 ghost use Rattle.std.specs.Float.{binary64};
 ghost use Rattle.model.specs.Loop as L;
+ghost use Rattle.panoc_core.specs.Told.{told};
 ghost use Rattle.alm_core.specs.Rest.{LoopBoard, next_of, found_of, found_y};
 ghost use Rattle.alm_core.specs.Board.{Ready, Comes, set_of, found_all, four};
 
-use alm_core::alm_cache::{Alm, AlmPhase, AlmQuestion, AlmStepped};
-use alm_core::alm_steps::{asks, conclude};
+use alm_core::alm_cache::{Alm, AlmNumbers, AlmOutcome, AlmPhase, AlmQuestion, AlmStepped};
+use alm_core::alm_steps::{conclude, to};
 use alm_iterations::next_iteration;
 use alm_tests::{
     counted, is_exit_criterion_satisfied, update_inner_akkt_tolerance, update_penalty_parameter,
@@ -22,7 +26,7 @@ pub fn weigh(
     plus: &[f64; 64],
 ) -> AlmStepped
     requires { Ready s }
-    ensures { (b : LoopBoard) → Comes s.set (L.weighed binary64 (set_of s) (next_of s (four u.old best.now y.old plus.now b)) (found_all s (four u.old best.now y.old plus.now b))) result (four u.new best.now y.new plus.now b) }
+    ensures { (b : LoopBoard) → Comes s.set (L.weighed binary64 (set_of s) (next_of s (four u.old best.now y.old plus.now b)) (found_all s (four u.old best.now y.old plus.now b))) (told result) (four u.new best.now y.new plus.now b) }
 {
     vector_copies::copy_into(best, u, s.set.n);
     if is_exit_criterion_satisfied(s) {
@@ -46,14 +50,16 @@ pub fn ask_f2(
     plus: &[f64; 64],
 ) -> AlmStepped
     requires { Ready s }
-    ensures { (b : LoopBoard) → Comes s.set (L.ask_f2 binary64 (set_of s) (next_of s (four u.old best.now y.old plus.now b)) (found_y s (four u.old best.now y.old plus.now b))) result (four u.new best.now y.new plus.now b) }
+    ensures { (b : LoopBoard) → Comes s.set (L.ask_f2 binary64 (set_of s) (next_of s (four u.old best.now y.old plus.now b)) (found_y s (four u.old best.now y.old plus.now b))) (told result) (four u.new best.now y.new plus.now b) }
 {
     if s.set.n2 == 0 {
-        let mut t = s;
-        t.numbers.f2_norm_plus = 0.0;
-        weigh(t, u, best, y, plus)
+        let numbers = AlmNumbers {
+            f2_norm_plus: 0.0,
+            ..s.numbers
+        };
+        weigh(Alm { numbers, ..s }, u, best, y, plus)
     } else {
-        asks(s, AlmPhase::F2, AlmQuestion::F2)
+        to(s, AlmPhase::F2, AlmOutcome::Asked(AlmQuestion::F2))
     }
 }
 
@@ -66,13 +72,15 @@ pub fn ask_f1(
     plus: &[f64; 64],
 ) -> AlmStepped
     requires { Ready s }
-    ensures { (b : LoopBoard) → Comes s.set (L.ask_f1 binary64 (set_of s) (next_of s (four u.old best.now y.old plus.now b)) (found_of s (four u.old best.now y.old plus.now b))) result (four u.new best.now y.new plus.now b) }
+    ensures { (b : LoopBoard) → Comes s.set (L.ask_f1 binary64 (set_of s) (next_of s (four u.old best.now y.old plus.now b)) (found_of s (four u.old best.now y.old plus.now b))) (told result) (four u.new best.now y.new plus.now b) }
 {
     if s.set.n1 == 0 {
-        let mut t = s;
-        t.numbers.delta_y_norm_plus = 0.0;
-        ask_f2(t, u, best, y, plus)
+        let numbers = AlmNumbers {
+            delta_y_norm_plus: 0.0,
+            ..s.numbers
+        };
+        ask_f2(Alm { numbers, ..s }, u, best, y, plus)
     } else {
-        asks(s, AlmPhase::F1, AlmQuestion::F1)
+        to(s, AlmPhase::F1, AlmOutcome::Asked(AlmQuestion::F1))
     }
 }

@@ -10,4 +10,4 @@ pub plus_over_into-requires : goal.plus_over_into-requires
 plus_over_into-requires c = omega (arith, sized_n1 c.args.s c.requires.0.0)
 
 pub returns : goal.returns
-returns c = λ b. f1_goes c.args.s (set_y c.args.y.now (set_y_plus c.args.plus.now (set_w c.args.w.now b))) _ c.requires.0 _ _ _ c.requires.1 c.requires.2 c.take_into.ensures c.plus_over_into.ensures c.asks.ensures
+returns c = λ b. f1_goes c.args.s (set_y c.args.y.now (set_y_plus c.args.plus.now (set_w c.args.w.now b))) _ c.requires.0 _ _ _ c.requires.1 c.requires.2 c.take_into.ensures c.plus_over_into.ensures c.to.ensures

@@ -6,11 +6,11 @@ use Rattle.alm_handlers.proofs.on_f2.Goals as goal
 pub take_into-requires : goal.take_into-requires
 take_into-requires c = omega (arith, sized_n2 c.args.s c.requires.0.0, c.requires.2)
 
-pub norm2-norm-requires : goal.norm2-norm-requires
-norm2-norm-requires c = omega (arith, sized_n2 c.args.s c.requires.0.0)
+pub norm2-requires : goal.norm2-requires
+norm2-requires c = omega (arith, sized_n2 c.args.s c.requires.0.0)
 
 pub weigh-requires : goal.weigh-requires
 weigh-requires c = norm_ready c.args.s _ c.requires.0
 
 pub returns : goal.returns
-returns c = λ b. f2_every c.args.s (five c.args.u.now c.args.scratch.now c.args.best.now c.args.y.now c.args.plus.now b) _ c.requires.0 _ _ _ _ _ c.requires.1 c.requires.2 c.take_into.ensures c.norm2-norm.ensures c.weigh.ensures
+returns c = λ b. f2_every c.args.s (five c.args.u.now c.args.scratch.now c.args.best.now c.args.y.now c.args.plus.now b) _ c.requires.0 _ _ _ _ _ c.requires.1 c.requires.2 c.take_into.ensures c.norm2.ensures c.weigh.ensures

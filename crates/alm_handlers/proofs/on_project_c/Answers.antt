@@ -9,11 +9,11 @@ take_into-requires c = omega (arith, sized_n1 c.args.s c.requires.0.0, c.require
 pub multipliers_into-requires : goal.multipliers_into-requires
 multipliers_into-requires c = omega (arith, sized_n1 c.args.s c.requires.0.0)
 
-pub norm2_diff-delta-requires : goal.norm2_diff-delta-requires
-norm2_diff-delta-requires c = omega (arith, sized_n1 c.args.s c.requires.0.0)
+pub norm2_diff-requires : goal.norm2_diff-requires
+norm2_diff-requires c = omega (arith, sized_n1 c.args.s c.requires.0.0)
 
 pub ask_f2-requires : goal.ask_f2-requires
 ask_f2-requires c = delta_ready c.args.s _ c.requires.0
 
 pub returns : goal.returns
-returns c = λ b. c_every c.args.s (six c.args.u.now c.args.scratch.now c.args.best.now c.args.y.now c.args.plus.now c.args.w.now b) _ c.requires.0 _ _ _ _ _ _ c.requires.1 c.requires.2 c.take_into.ensures c.multipliers_into.ensures c.norm2_diff-delta.ensures c.ask_f2.ensures
+returns c = λ b. c_every c.args.s (six c.args.u.now c.args.scratch.now c.args.best.now c.args.y.now c.args.plus.now c.args.w.now b) _ c.requires.0 _ _ _ _ _ _ c.requires.1 c.requires.2 c.take_into.ensures c.multipliers_into.ensures c.norm2_diff.ensures c.ask_f2.ensures

@@ -11,7 +11,7 @@ pub conclude-requires : goal.conclude-requires
 conclude-requires c = c.requires.0.0
 
 pub returns-then-s-eq0 : goal.returns-then-s-eq0
-returns-then-s-eq0 c = λ b. time_first c.args.s b _ c.requires.0 c.requires.1 _ c.if-yes.false c.if-s-eq0.true c.stops.ensures
+returns-then-s-eq0 c = λ b. time_first c.args.s b _ c.requires.0 c.requires.1 _ c.if-yes.false c.if-s-eq0.true c.to.ensures
 
 pub returns-else-s-eq0 : goal.returns-else-s-eq0
 returns-else-s-eq0 c = λ b. time_out c.args.s b _ c.requires.0 c.requires.1 _ c.if-yes.false c.if-s-eq0.false (c.conclude.ensures b)

@@ -9,4 +9,4 @@ pub returns-then-s-eq0 : goal.returns-then-s-eq0
 returns-then-s-eq0 c = λ b. f1_skips c.args.s (four c.args.u.now c.args.best.now c.args.y.now c.args.plus.now b) _ _ c.if-s-eq0.true (c.ask_f2.ensures b)
 
 pub returns-else-s-eq0 : goal.returns-else-s-eq0
-returns-else-s-eq0 c = λ b. f1_asks c.args.s (four c.args.u.now c.args.best.now c.args.y.now c.args.plus.now b) _ c.requires c.if-s-eq0.false c.asks.ensures
+returns-else-s-eq0 c = λ b. f1_asks c.args.s (four c.args.u.now c.args.best.now c.args.y.now c.args.plus.now b) _ c.requires c.if-s-eq0.false c.to.ensures
