@@ -47,7 +47,7 @@ use Rattle.alm_core.specs.declared.alm_cache.AlmSettings.{AlmSettings}
 use Rattle.panoc_core.specs.Told as O
 use Rattle.panoc_core.specs.Told.{given}
 use Rattle.start_sizes.specs.SizeLaws.{xi_length_lem, xi_short}
-use Rattle.alm_calls.specs.LoopCalls.{wanted_at, wanted_of, run_of, gave, lent_right, xi_given, xi_handed, tolerances_right, factors_right, limits_right, first_alm, Answers, Starts, Begins}
+use Rattle.alm_calls.specs.LoopCalls.{wanted_at, wanted_of, run_of, gave, lent_right, xi_given, xi_handed, limits_right, first_alm, Answers, Starts, Begins}
 use Rattle.alm_calls.specs.LoopLaws.{phase_code}
 
 bit : {X : Type 0} → true ≡ false → X
@@ -405,65 +405,7 @@ refusal_wanted s w {m} a vs t e q = q ∙ ap (λ (z : Option Kind). answer_refus
 pub not_inner : (s : Alm) (p : AlmPhase) → s.phase ≡ p → phase_code p ≡ 0 → s.phase ≡ P.Inner → ⊥
 not_inner s p e z q = omega (arith, ap phase_code (sym e ∙ q), z)
 
--- ---- the start's tests
-and_four : (a b c d e : Bool) → (a && (b && (c && (d && e)))) ≡ ((a && (b && (c && d))) && e)
-and_four true true true d e = refl
-and_four true true false d e = refl
-and_four true false c d e = refl
-and_four false b c d e = refl
-
--- the refusal, test by test
-module _ (s : AlmSettings) (us : ℕ) (xi : List Float) where
-  abbrev number : ℕ
-  number = R.loop_refusal binary64 (settings_of s) us xi
-
-  numbers_is : R.loop_numbers_right binary64 (settings_of s) ≡ (tolerances_right s && factors_right s)
-  unfolding R.loop_numbers_right tolerances_right factors_right
-  numbers_is = and_four (R.tolerance_right s.tolerance) (R.tolerance_right s.epsilon_tolerance) (R.tolerance_right s.delta_tolerance) (R.tolerance_right s.initial_inner_tolerance) _
-
-  refusal_parts : number ≡ R.unless (R.sizes_right s.n us) 1 (R.unless (R.mappings_right s.n1 s.n2 s.has_set_y (length xi)) 2 (R.unless (limits_right s) 3 (R.unless (tolerances_right s && factors_right s) 4 (R.unless (R.xi_right xi) 5 0))))
-  unfolding R.loop_refusal limits_right
-  refusal_parts = ap (λ (t : Bool). R.unless (R.sizes_right s.n us) 1 (R.unless (R.mappings_right s.n1 s.n2 s.has_set_y (length xi)) 2 (R.unless (R.limit_right 10000 s.max_inner_iterations && R.limit_right 1000 s.max_outer_iterations) 3 (R.unless t 4 (R.unless (R.xi_right xi) 5 0))))) numbers_is
-
-  at_tests : (a b c d f g : Bool) → a ≡ R.sizes_right s.n us → b ≡ R.mappings_right s.n1 s.n2 s.has_set_y (length xi) → c ≡ limits_right s → d ≡ tolerances_right s → f ≡ factors_right s → g ≡ R.xi_right xi
-      → R.unless a 1 (R.unless b 2 (R.unless c 3 (R.unless (d && f) 4 (R.unless g 5 0)))) ≡ number
-  at_tests a b c d f g p q r t u v =
-      rw (p, q, r, t, u, v) (sym refusal_parts)
-
-  -- what the tests so far have shown
-  pub refuses_sizes : (a : Bool) → a ≡ R.sizes_right s.n us → a ≡ false → 1 ≡ number
-  unfolding R.unless
-  refuses_sizes a p x = sym (rw x at (sym (at_tests a _ _ _ _ _ p refl refl refl refl refl)))
-
-  module _ (a : Bool) (p : a ≡ R.sizes_right s.n us) (x : a ≡ true) (b : Bool) (q : b ≡ R.mappings_right s.n1 s.n2 s.has_set_y (length xi)) where
-    pub refuses_mappings : b ≡ false → 2 ≡ number
-    unfolding R.unless
-    refuses_mappings y = sym (rw (x, y) at (sym (at_tests a b _ _ _ _ p q refl refl refl refl)))
-
-    module _ (y : b ≡ true) (c : Bool) (r : c ≡ limits_right s) where
-      pub refuses_limits : c ≡ false → 3 ≡ number
-      unfolding R.unless
-      refuses_limits z = sym (rw (x, y, z) at (sym (at_tests a b c _ _ _ p q r refl refl refl)))
-
-      module _ (z : c ≡ true) (d : Bool) (t : d ≡ tolerances_right s) where
-        pub refuses_tolerances : d ≡ false → 4 ≡ number
-        unfolding R.unless
-        refuses_tolerances w = sym (rw (x, y, z, w) at (sym (at_tests a b c d _ _ p q r t refl refl)))
-
-        module _ (w : d ≡ true) (f : Bool) (u : f ≡ factors_right s) where
-          pub refuses_factors : f ≡ false → 4 ≡ number
-          unfolding R.unless
-          refuses_factors i = sym (rw (x, y, z, w, i) at (sym (at_tests a b c d f _ p q r t u refl)))
-
-          module _ (i : f ≡ true) (g : Bool) (v : g ≡ R.xi_right xi) where
-            pub refuses_xi : g ≡ false → 5 ≡ number
-            unfolding R.unless
-            refuses_xi j = sym (rw (x, y, z, w, i, j) at (sym (at_tests a b c d f g p q r t u v)))
-
-            pub refuses_none : g ≡ true → 0 ≡ number
-            unfolding R.unless
-            refuses_none j = sym (rw (x, y, z, w, i, j) at (sym (at_tests a b c d f g p q r t u v)))
-
+-- ---- the first outer iteration
 iterations_suc : (w : L.LoopSettings) (k l : ℕ) (st : L.LoopState) → k ≡ suc l → L.iterations binary64 w k M.converged st ≡ L.begins binary64 w (L.iterations binary64 w l) st
 unfolding L.iterations
 iterations_suc w k l st e = ap (λ (n : ℕ). L.iterations binary64 w n M.converged st) e
@@ -471,11 +413,11 @@ iterations_suc w k l st e = ap (λ (n : ℕ). L.iterations binary64 w n M.conver
 -- ---- a run that is begun
 module _ (s : AlmSettings) (us : ℕ) (xi : List Float) (e : R.loop_refusal binary64 (settings_of s) us xi ≡ 0) where
   tests : (R.sizes_right s.n us ≡ true) × (R.mappings_right s.n1 s.n2 s.has_set_y (length xi) ≡ true) × (limits_right s ≡ true)
-  unfolding R.unless
-  tests = by (R.sizes_right s.n us) (R.mappings_right s.n1 s.n2 s.has_set_y (length xi)) (limits_right s) refl refl refl (sym (refusal_parts s us xi) ∙ e)
+  unfolding R.unless R.loop_refusal limits_right
+  tests = by (R.sizes_right s.n us) (R.mappings_right s.n1 s.n2 s.has_set_y (length xi)) (limits_right s) refl refl refl e
     where
       by : (a b c : Bool) → R.sizes_right s.n us ≡ a → R.mappings_right s.n1 s.n2 s.has_set_y (length xi) ≡ b → limits_right s ≡ c
-          → R.unless a 1 (R.unless b 2 (R.unless c 3 (R.unless (tolerances_right s && factors_right s) 4 (R.unless (R.xi_right xi) 5 0)))) ≡ 0
+          → R.unless a 1 (R.unless b 2 (R.unless c 3 (R.unless (R.loop_numbers_right binary64 (settings_of s)) 4 (R.unless (R.xi_right xi) 5 0)))) ≡ 0
           → (R.sizes_right s.n us ≡ true) × (R.mappings_right s.n1 s.n2 s.has_set_y (length xi) ≡ true) × (limits_right s ≡ true)
       by true true true p q r w = (p, q, r)
       by true true false p q r w = absurd (omega arith)

@@ -4,12 +4,14 @@
 ghost use Rattle.std.specs.Prelude.{◌≡◌, ◌≤◌};
 ghost use Rattle.alm_core.specs.Rest.{LoopBoard};
 ghost use Rattle.model.specs.Refusals as R;
+ghost use Rattle.panoc_core.specs.Told.{number_in};
 ghost use Rattle.alm_calls.specs.LoopCalls.{run_of, Points};
 ghost use Rattle.alm_vectors.specs.LoopPoints.{first_places, inner_second, second_places, asked};
 
 use alm_core::alm_cache::{Alm, AlmPhase, AlmRun};
-use alm_vectors::{carries_xi, first_point, second_point};
+use alm_vectors::{carries_xi_at, first_point, second_point};
 use alm_wanted::is_waiting;
+use panoc_core::outcome::Refusal;
 
 // How many places xi has: none where n1 = n2 = 0, else the penalty's and n1.
 #[tactic(auto, unfolding(model::specs::Refusals::xi_length))]
@@ -37,7 +39,7 @@ fn inner_second_places(s: Alm) -> usize
     requires { s.set.n1 ≤ 32 }
     ensures { result ≡ inner_second s }
 {
-    if carries_xi(s.solve) {
+    if carries_xi_at(s.solve.phase) {
         xi_places(s.set.n1, s.set.n2)
     } else {
         panoc_places::second_places(s.solve)
@@ -56,36 +58,36 @@ pub fn second_places(s: Alm) -> usize
     }
 }
 
-// The points of the question of a run in place: 0, or 6 where it has ended and 8 where a slice is not as long as its point.
-pub fn points_in_place<'a>(
+// The points of the question of a run in place, refused where it has ended and where a slice is not as long as its point.
+pub fn points_in_place(
     s: Alm,
     first: &mut [f64],
     second: &mut [f64],
-    u: &'a [f64; 64],
-    candidate: &'a [f64; 64],
-    step: &'a [f64; 64],
-    half: &'a [f64; 64],
-    fpr: &'a [f64; 64],
-    best: &'a [f64; 64],
-    y: &'a [f64; 64],
-    plus: &'a [f64; 64],
-) -> u32
-    ensures { (b : LoopBoard) → Points (run_of s (asked u.now candidate.now step.now half.now fpr.now best.now y.now plus.now b)) first.old first.new second.old second.new result }
+    u: &[f64; 64],
+    candidate: &[f64; 64],
+    step: &[f64; 64],
+    half: &[f64; 64],
+    fpr: &[f64; 64],
+    best: &[f64; 64],
+    y: &[f64; 64],
+    plus: &[f64; 64],
+) -> Result<(), Refusal>
+    ensures { (b : LoopBoard) → Points (run_of s (asked u.now candidate.now step.now half.now fpr.now best.now y.now plus.now b)) first.old first.new second.old second.new (number_in result) }
 {
     if !is_waiting(s) {
-        return 6;
+        return Err(Refusal::Over);
     }
     if first.len() != first_places(s) || second.len() != second_places(s) {
-        return 8;
+        return Err(Refusal::Lengths);
     }
     first_point(s, first, u, candidate, step, half, fpr, best, y, plus);
     second_point(s, second, u, y);
-    0
+    Ok(())
 }
 
 // The points of the question of a run by value.
-pub fn points(run: AlmRun, first: &mut [f64], second: &mut [f64]) -> u32
-    ensures { Points run first.old first.new second.old second.new result }
+pub fn points(run: AlmRun, first: &mut [f64], second: &mut [f64]) -> Result<(), Refusal>
+    ensures { Points run first.old first.new second.old second.new (number_in result) }
 {
     points_in_place(
         run.alm,

@@ -5,14 +5,16 @@ ghost use Rattle.std.specs.Prelude.{◌≡◌};
 ghost use Rattle.alm_core.specs.Rest.{LoopBoard};
 ghost use Rattle.std.specs.Float.{binary64};
 ghost use Rattle.model.specs.Refusals as R;
+ghost use Rattle.panoc_core.specs.Told.{number_of, told, answered};
 ghost use Rattle.alm_core.specs.Values.{settings_of};
 ghost use Rattle.alm_core.specs.Board.{set_u, set_y, set_y_plus};
 ghost use Rattle.alm_calls.specs.LoopCalls.{tolerances_right, factors_right, limits_right, Starts, Begins};
 
-use alm_core::alm_cache::{AlmAnswered, AlmRun, AlmSettings, AlmStepped};
-use alm_core::alm_steps::stops;
+use alm_core::alm_cache::{AlmAnswered, AlmOutcome, AlmPhase, AlmRun, AlmSettings, AlmStepped};
+use alm_core::alm_steps::to;
 use alm_first::first;
 use alm_iterations::begins;
+use panoc_core::outcome::Refusal;
 use start_numbers::{factor_right, fraction_right, limit_right, tolerance_right};
 use start_sizes::{mappings_right, sizes_right};
 use start_tests::{multipliers_in, penalty_in, xi_right};
@@ -46,26 +48,24 @@ pub fn limits_right(set: AlmSettings) -> bool
     limit_right(10000, set.max_inner_iterations) && limit_right(1000, set.max_outer_iterations)
 }
 
-// The number of the start's refusal, 1 to 5, and 0 for none.
-pub fn start_refusal(set: AlmSettings, us: usize, xi: &[f64]) -> u32
-    ensures { result ≡ R.loop_refusal binary64 (settings_of set) us xi.now }
+// Why a start is refused: 1 to 5 of the table; us is the length of the lent u.
+#[tactic(auto, unfolding(model::specs::Refusals::loop_refusal, model::specs::Refusals::unless, model::specs::Refusals::loop_numbers_right, alm_calls::specs::LoopCalls::tolerances_right, alm_calls::specs::LoopCalls::factors_right, alm_calls::specs::LoopCalls::limits_right))]
+pub fn start_refusal(set: AlmSettings, us: usize, xi: &[f64]) -> Option<Refusal>
+    ensures { number_of result ≡ R.loop_refusal binary64 (settings_of set) us xi.now }
 {
     if !sizes_right(set.n, us) {
-        return 1;
+        return Some(Refusal::Sizes);
     }
     if !mappings_right(set.n1, set.n2, set.has_set_y, xi.len()) {
-        return 2;
+        return Some(Refusal::Mappings);
     }
     if !limits_right(set) {
-        return 3;
+        return Some(Refusal::Limits);
     }
-    if !tolerances_right(set) {
-        return 4;
+    if !tolerances_right(set) || !factors_right(set) {
+        return Some(Refusal::Tolerances);
     }
-    if !factors_right(set) {
-        return 4;
-    }
-    if xi_right(xi) { 0 } else { 5 }
+    (!xi_right(xi)).then_some(Refusal::Multipliers)
 }
 
 // A run in place that is begun at first and xi, or its refusal.
@@ -77,25 +77,27 @@ pub fn start_in_place(
     y: &mut [f64; 64],
     plus: &mut [f64; 64],
 ) -> AlmStepped
-    ensures { (b : LoopBoard) → Begins set plan.now xi.now result (set_u u.new (set_y y.new (set_y_plus plus.new b))) }
+    ensures { (b : LoopBoard) → Begins set plan.now xi.now (told result) (set_u u.new (set_y y.new (set_y_plus plus.new b))) }
 {
-    let number = start_refusal(set, plan.len(), xi);
     let penalty = penalty_in(xi);
-    if number == 0 {
-        vector_copies::take_into(plan, u);
-        multipliers_in(xi, y);
-        multipliers_in(xi, plus);
-        let s = first(set, penalty, set.max_outer_iterations - 1);
-        begins(s)
-    } else {
-        let s = first(set, penalty, 0);
-        stops(s, number)
+    match start_refusal(set, plan.len(), xi) {
+        None => {
+            vector_copies::take_into(plan, u);
+            multipliers_in(xi, y);
+            multipliers_in(xi, plus);
+            begins(first(set, penalty, set.max_outer_iterations - 1))
+        }
+        Some(refusal) => to(
+            first(set, penalty, 0),
+            AlmPhase::Over,
+            AlmOutcome::Refused(refusal),
+        ),
     }
 }
 
 // A run by value that is begun at u and xi, or its refusal.
 pub fn start(set: AlmSettings, u: &[f64], xi: &[f64]) -> AlmAnswered
-    ensures { Starts set u.now xi.now result }
+    ensures { Starts set u.now xi.now (answered result) }
 {
     let mut v = vector_copies::zeros();
     let mut y = vector_copies::zeros();
@@ -103,7 +105,7 @@ pub fn start(set: AlmSettings, u: &[f64], xi: &[f64]) -> AlmAnswered
     let r = start_in_place(set, u, xi, &mut v, &mut y, &mut plus);
     let zeros = vector_copies::zeros();
     let run = AlmRun {
-        alm: r.alm,
+        alm: r.state,
         u: v,
         u_plus: zeros,
         gradient_u: zeros,

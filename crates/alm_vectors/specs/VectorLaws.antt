@@ -5,7 +5,6 @@ use Rattle.matrix_operations.specs.Firsts.{firsts}
 use Rattle.model.specs.Refusals.{xi_length}
 use Rattle.panoc_core.specs.Board as Inner
 use Rattle.panoc_places.specs.Points.{first_fits, second_fits}
-use Rattle.alm_core.specs.Rest.{LoopBoard}
 use Rattle.alm_core.specs.Board.{Sound}
 use Rattle.alm_core.specs.Laws.{sized_n, sized_n1, counts_n}
 use Rattle.alm_core.specs.declared.alm_cache.Alm.{Alm}
@@ -13,7 +12,7 @@ use Rattle.alm_core.specs.declared.alm_cache.AlmPhase.{AlmPhase}
 use Rattle.alm_core.specs.declared.alm_cache.AlmPhase.TheVariants as P
 use Rattle.alm_calls.specs.LoopCalls.{xi_given}
 use Rattle.alm_calls.proofs.LoopLaws.{sound_sized, sound_ready}
-use Rattle.alm_vectors.specs.LoopPoints.{carries_xi, first_places, inner_second, first_at, inner_second_at, second_at_phase}
+use Rattle.alm_vectors.specs.LoopPoints.{carries_xi, first_places, inner_second, inner_second_at}
 
 -- ---- the points have room
 pub xi_room : (n1 n2 : ℕ) → n1 ≤ 32 → xi_length n1 n2 ≤ 33
@@ -40,13 +39,7 @@ first_room s P.F2 h e = (sound_wide s h).0
 first_room s P.LastCost h e = (sound_wide s h).0
 first_room s P.Over h e = omega arith
 
--- ---- the point of the phase
-pub point_at : (s : Alm) (b : LoopBoard) (p : AlmPhase) (xs : List Float) {xs' : List Float} → s.phase ≡ p → xs' ≡ first_at s b p xs → xs' ≡ first_at s b s.phase xs
-point_at s b p xs {xs'} e x = x ∙ sym (ap (λ (z : AlmPhase). first_at s b z xs) e)
-
-pub second_at : (s : Alm) (u y : List Float) (p : AlmPhase) (ys : List Float) {ys' : List Float} → s.phase ≡ p → ys' ≡ second_at_phase s u y p ys → ys' ≡ second_at_phase s u y s.phase ys
-second_at s u y p ys {ys'} e x = x ∙ sym (ap (λ (z : AlmPhase). second_at_phase s u y z ys) e)
-
+-- ---- the second point of the inner solve
 module _ (s : Alm) (t : Bool) (te : t ≡ carries_xi s.solve.phase) where
   pub room_with : {l : ℕ} → t ≡ true → s.set.n1 ≤ 32 → l ≡ inner_second s → l ≤ 33
   room_with {l} q h e =

@@ -1,4 +1,5 @@
-// The vectors that the points of the loop's question are copied from.
+// The vectors that the points of the loop's question are copied from, by the phase: each arm names its vector, which a closure would not say plainer.
+// They are lent one by one: C lends each as an array of its own, and a struct of references for eight of them would be made for one call alone.
 #![tactic(auto)]
 
 ghost use Rattle.std.specs.Prelude.{◌≡◌, length, ◌≤◌};
@@ -8,16 +9,9 @@ ghost use Rattle.alm_vectors.specs.LoopPoints.{carries_xi, first_places, inner_s
 
 use alm_calls::lent::fill_xi;
 use alm_core::alm_cache::{Alm, AlmPhase};
-use panoc_core::panoc_cache::{Phase, Solve};
+use panoc_core::panoc_cache::Phase;
 
-// Whether a question of the inner solve comes with xi: COST and GRADIENT do.
-pub fn carries_xi(s: Solve) -> bool
-    ensures { result ≡ carries_xi s.phase }
-{
-    carries_xi_at(s.phase)
-}
-
-// The same at a phase.
+// Whether the inner solve's question at a phase comes with xi: COST and GRADIENT do.
 pub fn carries_xi_at(phase: Phase) -> bool
     ensures { result ≡ carries_xi phase }
 {
@@ -66,7 +60,7 @@ fn inner_second_point(s: Alm, second: &mut [f64], u: &[f64; 64], y: &[f64; 64])
     requires { (s.set.n1 ≤ 32) × (s.solve.set.n ≤ 64) × (length second.old ≡ inner_second s) }
     ensures { second.new ≡ inner_second_at s u.now y.now second.old }
 {
-    if carries_xi(s.solve) {
+    if carries_xi_at(s.solve.phase) {
         fill_xi(s.numbers.penalty, y, second);
     } else {
         vector_copies::give(u, second);

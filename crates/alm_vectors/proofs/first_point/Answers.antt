@@ -1,7 +1,6 @@
-use Rattle.alm_core.specs.declared.alm_cache.AlmPhase.TheVariants as P
 use Rattle.std.proofs.Common.{arith, refl, ap, ◌∙◌}
-use Rattle.alm_vectors.specs.VectorLaws.{first_room, sound_inner, point_at}
-use Rattle.alm_vectors.specs.LoopPoints.{asked, first_places}
+use Rattle.alm_vectors.specs.VectorLaws.{first_room, sound_inner}
+use Rattle.alm_vectors.specs.LoopPoints.{first_places}
 use Rattle.alm_vectors.proofs.first_point.Goals as goal
 
 pub give-requires : goal.give-requires

@@ -1,6 +1,5 @@
-use Rattle.alm_core.specs.declared.alm_cache.AlmPhase.TheVariants as P
-use Rattle.std.proofs.Common.{arith, refl, ap, ◌∙◌}
-use Rattle.alm_vectors.specs.VectorLaws.{sound_wide, sound_inner, xi_room, second_at}
+use Rattle.std.proofs.Common.{arith, ap, ◌∙◌}
+use Rattle.alm_vectors.specs.VectorLaws.{sound_wide, sound_inner, xi_room}
 use Rattle.alm_vectors.specs.LoopPoints.{second_places}
 use Rattle.alm_vectors.proofs.second_point.Goals as goal
 
