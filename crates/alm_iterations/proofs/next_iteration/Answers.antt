@@ -2,17 +2,11 @@ use Rattle.std.proofs.Common.{◌-◌, arith, inl, inr}
 use Rattle.alm_core.specs.Laws.{next_ready, next_none, next_on, next_open, next_late}
 use Rattle.alm_iterations.proofs.next_iteration.Goals as goal
 
-pub conclude-requires : goal.conclude-requires
-conclude-requires c = c.requires.0
-
 pub returns-then-s-eq0 : goal.returns-then-s-eq0
 returns-then-s-eq0 c = λ b. next_none c.args.s b _ c.args.status c.if-s-eq0.true (c.conclude.ensures b)
 
 pub begins-requires : goal.begins-requires
 begins-requires c = next_ready c.args.s _ c.requires (omega (arith, c.if-s-eq0.false))
-
-pub conclude-requires-in-NotConvergedOutOfTime : goal.conclude-requires-in-NotConvergedOutOfTime
-conclude-requires-in-NotConvergedOutOfTime c = c.requires.0
 
 pub returns-in-Converged : goal.returns-in-Converged
 returns-in-Converged c = λ b.
