@@ -7,9 +7,8 @@ use Rattle.model.specs.Process.{Kind}
 use Rattle.model.specs.Process as M
 use Rattle.model.specs.Psi.{psi_ask_f2, d_psi_ask_f2}
 use Rattle.model.specs.Refusals.{accept, lent_after}
+use Rattle.panoc_core.specs.Told.{Told, given}
 use Rattle.panoc_core.specs.Values.{reply_of}
-use Rattle.panoc_core.specs.declared.outcome.Outcome.{Outcome}
-use Rattle.panoc_core.specs.declared.outcome.Outcome.TheVariants.{Asked, Ended, Refused, Failed}
 use Rattle.panoc_core.specs.declared.outcome.Stepped.{Stepped}
 use Rattle.panoc_core.specs.declared.outcome.Answered.{Answered}
 use Rattle.panoc_core.specs.declared.panoc_cache.Reply.{Reply}
@@ -23,7 +22,7 @@ use Rattle.factory.specs.declared.alm_factory.PsiBoard.{PsiBoard}
 use Rattle.factory.specs.declared.alm_factory.DPsiPhase.{DPsiPhase}
 use Rattle.factory.specs.declared.alm_factory.DPsiPhase.TheVariants as D
 use Rattle.factory.specs.declared.alm_factory.DPsiBoard.{DPsiBoard}
-use Rattle.factory.specs.FactoryValues.{sizes_of, PsiState, PsiStepped, DPsiOutcome, DPsiState, DPsiStepped}
+use Rattle.factory.specs.FactoryValues.{sizes_of, PsiState, PsiStep, DPsiState, DPsiStep}
 use Rattle.factory.specs.FactoryRest.{sound_sizes, psi_rest, d_psi_rest}
 use Rattle.factory.specs.FactoryCalls.{PsiReaches, DPsiBegins, result_of}
 
@@ -44,7 +43,7 @@ gave r b = record { outcome = r.outcome; run = run_of r.state b }
 abbrev pub at : {P V : Type 0} → P → State P V → State P V
 at p s = record s { phase = p }
 
-abbrev pub stepped : {P V : Type 0} → Outcome PsiQuestion V → P → State P V → Stepped (Outcome PsiQuestion V) (State P V)
+abbrev pub stepped : {P V : Type 0} → Told PsiQuestion V → P → State P V → Stepped (Told PsiQuestion V) (State P V)
 stepped o p s = record { outcome = o; state = at p s }
 
 -- what a run waits for, by its small part alone; kind_at is what it waits for at a phase
@@ -70,7 +69,7 @@ abbrev pub psi_ytw : List Float → List Float → List Float → PsiBoard → P
 psi_ytw y t w b = record b { y = y; t = t; work = w }
 
 -- an answer that nothing refuses
-abbrev pub PsiTakes : PsiState → PsiBoard → Reply → List Float → PsiStepped → PsiBoard → Type 0
+abbrev pub PsiTakes : PsiState → PsiBoard → Reply → List Float → PsiStep → PsiBoard → Type 0
 PsiTakes s b a v r b' = PsiReaches s.sizes (accept (psi_rest (run_of s b)) (reply_of a) v) (gave r b')
 
 -- the small part with another value
@@ -119,20 +118,13 @@ d_psi_tdw t d w b = record b { t = t; d = d; work = w }
 abbrev pub d_psi_five : List Float → List Float → List Float → List Float → List Float → DPsiBoard → DPsiBoard
 d_psi_five y g t d w b = record b { y = y; gradient = g; t = t; d = d; work = w }
 
--- what a lent result is to hold: at the end the gradient
-unfoldable pub given : DPsiOutcome → List Float → List Float → List Float
-given (Asked q) g us = us
-given (Ended x) g us = g
-given (Refused k) g us = us
-given (Failed c) g us = us
-
 -- what a call in place comes to; at the end the result lies in the gradient, and nothing lent is written yet
-pub record DPsiComes (s : Sizes) (p : M.DPsi) (r : DPsiStepped) (b : DPsiBoard) : Type 0 where
+pub record DPsiComes (s : Sizes) (p : M.DPsi) (r : DPsiStep) (b : DPsiBoard) : Type 0 where
   pub reaches : DPsiBegins s p (gave r b)
   pub result : (us : List Float) → lent_after result_of p us ≡ given r.outcome (firsts s.n b.gradient) us
 
 -- an answer that nothing refuses
-abbrev pub DPsiTakes : DPsiState → DPsiBoard → Reply → List Float → DPsiStepped → DPsiBoard → Type 0
+abbrev pub DPsiTakes : DPsiState → DPsiBoard → Reply → List Float → DPsiStep → DPsiBoard → Type 0
 DPsiTakes s b a v r b' = DPsiComes s.sizes (accept (d_psi_rest (run_of s b)) (reply_of a) v) r b'
 
 -- what follows the part of F1, with the gradient so far

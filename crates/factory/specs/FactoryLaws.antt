@@ -1,9 +1,8 @@
 -- Laws that psi and d_psi share: sizes, the table, what a start takes, points. Assumes nothing.
-use Rattle.std.specs.Prelude.{ℕ, suc, ◌+◌, ◌≤◌, ◌<◌, ◌≡◌, refl, Bool, true, false, cond, ◌&&◌, List, [], ◌∷◌, leb, eqb, ltb, Float, length}
-use Rattle.std.proofs.Common.{sym, ap, ◌∙◌, arith, le-leb, leb-true, eq-eqb, ne_eqb, eqb-true}
+use Rattle.std.specs.Prelude.{ℕ, suc, ◌+◌, ◌≤◌, ◌≡◌, refl, Bool, true, false, cond, ◌&&◌, List, [], ◌∷◌, leb, eqb, ltb, Float, length}
+use Rattle.std.proofs.Common.{sym, ap, ◌∙◌, arith, leb-true, eq-eqb, ne_eqb, eqb-true}
 use Rattle.std.proofs.Math.Path.{subst}
 use Rattle.std.proofs.Math.Option.{Option, none, some}
-use Rattle.std.proofs.lemmas.Bool.{lt-leb}
 use Rattle.matrix_operations.specs.Firsts.{firsts}
 use Rattle.matrix_operations.specs.Laws.{length_firsts}
 use Rattle.model.specs.Process.{Kind, Answer, refused, failed, Process, ask, score, begin, stop, PsiQuestion}
@@ -132,32 +131,7 @@ unfolding answer_refusal
 accepted_any true k a vs lent e = (refl, e)
 accepted_any false k a vs lent e = six_not e
 
--- ---- a start: the tests one by one
-pub sound_is : (s : Sizes) → s.n ≤ 64 → s.n1 ≤ 32 → leb s.n2 32 ≡ sound_sizes s
-unfolding sound_sizes
-sound_is s a b = rw (le-leb _ _ a, le-leb _ _ b)
-
-pub sound_not_n : (s : Sizes) → 64 < s.n → false ≡ sound_sizes s
-unfolding sound_sizes
-sound_not_n s a = rw (lt-leb _ _ a)
-
-pub sound_not_n1 : (s : Sizes) → s.n ≤ 64 → 32 < s.n1 → false ≡ sound_sizes s
-unfolding sound_sizes
-sound_not_n1 s a b = rw (le-leb _ _ a, lt-leb _ _ b)
-
--- the number of a start's refusal
-module _ (s : Sizes) (us xis : ℕ) where
-  pub refusal_one : sizes_right s.n us ≡ false → 1 ≡ psi_refusal (sizes_of s) us xis
-  unfolding psi_refusal unless
-  refusal_one e = rw e
-
-  pub refusal_two : sizes_right s.n us ≡ true → mappings_right s.n1 s.n2 false xis ≡ false → 2 ≡ psi_refusal (sizes_of s) us xis
-  unfolding psi_refusal unless
-  refusal_two e q = rw (e, q)
-
-  pub refusal_none : sizes_right s.n us ≡ true → mappings_right s.n1 s.n2 false xis ≡ true → 0 ≡ psi_refusal (sizes_of s) us xis
-  unfolding psi_refusal unless
-  refusal_none e q = rw (e, q)
+-- ---- a start
 
 -- what an accepted start says
 pub record Started (s : Sizes) (us : ℕ) (xi : List Float) : Type 0 where
@@ -207,14 +181,6 @@ started s us xi e =
 
 -- ---- points
 module _ (p q : List Float) (n m : ℕ) (xs ys : List Float) where
-  pub placed : (xs' ys' : List Float) → length xs ≡ n → length ys ≡ m → xs' ≡ firsts (length xs) p → ys' ≡ firsts (length ys) q → Placed (firsts n p) (firsts m q) xs xs' ys ys' 0
-  placed xs' ys' a b e f =
-      record {
-        number = rw (eq-eqb (length xs) _ (a ∙ sym (length_firsts n p)), eq-eqb (length ys) _ (b ∙ sym (length_firsts m q)));
-        kept = λ i z. absurd (omega arith);
-        points = λ z. (e ∙ ap (λ (k : ℕ). firsts k p) a, f ∙ ap (λ (k : ℕ). firsts k q) b);
-      }
-
   pub placed_not_first : (length xs ≡ n → ⊥) → Placed (firsts n p) (firsts m q) xs xs ys ys 8
   placed_not_first a = record { number = rw (ne_eqb (length xs) _ (λ z. a (z ∙ length_firsts n p))); kept = λ i z. (refl, refl); points = λ z. absurd (omega arith) }
 

@@ -5,7 +5,7 @@ use Rattle.matrix_operations.specs.Firsts.{firsts}
 use Rattle.model.specs.Process.{refused, stop}
 use Rattle.model.specs.Psi as S
 use Rattle.model.specs.Refusals.{wanted, remains}
-use Rattle.panoc_core.specs.Outcomes.{said}
+use Rattle.panoc_core.specs.Told.{said}
 use Rattle.factory.specs.declared.alm_factory.Sizes.{Sizes}
 use Rattle.factory.specs.declared.alm_factory.PsiQuestion.TheVariants as Q
 use Rattle.factory.specs.declared.alm_factory.PsiPhase.{PsiPhase}

@@ -1,5 +1,5 @@
 -- Laws of a run with phases P, values V and a board B, which psi and d_psi share: what is left at a phase and at an end, what is asked, what is taken. Assumes nothing.
-use Rattle.std.specs.Prelude.{ℕ, ◌≡◌, refl, Bool, true, false, cond, List, Float}
+use Rattle.std.specs.Prelude.{ℕ, ◌≡◌, refl, Bool, true, false, List, Float}
 use Rattle.std.proofs.Common.{sym, ap, ◌∙◌}
 use Rattle.std.proofs.Math.Path.{subst}
 use Rattle.std.proofs.Math.Option.{Option, none, some}
@@ -7,10 +7,9 @@ use Rattle.model.specs.Process.{Kind, Answer, handed, refused, failed, Process, 
 use Rattle.model.specs.Process as M
 use Rattle.model.specs.Refusals.{answer_refusal, wanted, accept, replied, go_on, as_number, as_vector, remains}
 use Rattle.model.specs.Refusals as R
-use Rattle.panoc_core.specs.declared.outcome.Outcome.{Outcome}
-use Rattle.panoc_core.specs.declared.outcome.Outcome.TheVariants as O
 use Rattle.panoc_core.specs.declared.outcome.Stepped.{Stepped}
-use Rattle.panoc_core.specs.Outcomes.{said}
+use Rattle.panoc_core.specs.Told.{Told, said}
+use Rattle.panoc_core.specs.Told as O
 use Rattle.factory.specs.declared.alm_factory.Sizes.{Sizes}
 use Rattle.factory.specs.declared.alm_factory.PsiQuestion.{PsiQuestion}
 use Rattle.factory.specs.declared.alm_factory.State.{State}
@@ -64,7 +63,7 @@ module _ {P V B H : Type 0} (resume : Run (State P V) B → P → Process M.PsiQ
   points_wild xs ys h = points_none _ xs ys (ap asking (rest_wild resume (run_of s b) h))
 
 -- ---- what a call has come to
-module _ {P V B H : Type 0} (tells : H → V) (resume : Run (State P V) B → P → Process M.PsiQuestion H) (t : State P V) (b : B) (p : P) (r : Stepped (Outcome PsiQuestion V) (State P V)) where
+module _ {P V B H : Type 0} (tells : H → V) (resume : Run (State P V) B → P → Process M.PsiQuestion H) (t : State P V) (b : B) (p : P) (r : Stepped (Told PsiQuestion V) (State P V)) where
   -- a question
   pub asks_comes : (q : M.PsiQuestion) (k : Kind) (continue : Answer k → Process M.PsiQuestion H) → Sound t.sizes → r ≡ stepped (O.Asked (question_of q)) p t
       → resume (run_of (at p t) b) p ≡ ask q k continue → Reaches tells resume t.sizes (ask q k continue) (gave r b)
@@ -82,14 +81,6 @@ module _ {P V B H : Type 0} (tells : H → V) (resume : Run (State P V) B → P 
 
 -- ---- what a run waits for
 module _ {P V : Type 0} (kind_at : Sizes → P → Option Kind) (s : State P V) where
-  pub kind_sound : sound_sizes s.sizes ≡ true → kind_at s.sizes s.phase ≡ kind kind_at s
-  unfolding kind
-  kind_sound h = sym (ap (λ (t : Bool). cond t (kind_at s.sizes s.phase) none) h)
-
-  pub kind_wild : sound_sizes s.sizes ≡ false → none ≡ kind kind_at s
-  unfolding kind
-  kind_wild h = sym (ap (λ (t : Bool). cond t (kind_at s.sizes s.phase) none) h)
-
   -- where an answer is accepted
   pub accepted_at : (a : R.Reply) (vs : ℕ) (lent : Bool) → answer_refusal (kind kind_at s) a vs lent ≡ 0 → (p : P) → s.phase ≡ p → (Sound s.sizes) × (answer_refusal (kind_at s.sizes p) a vs lent ≡ 0)
   unfolding kind

@@ -5,10 +5,9 @@ use Rattle.matrix_operations.specs.Firsts.{firsts}
 use Rattle.model.specs.Process.{refused, Process, stop}
 use Rattle.model.specs.Process as M
 use Rattle.model.specs.Refusals.{remains, or_refused, penalty_in, multipliers_in, psi_refusal}
-use Rattle.panoc_core.specs.declared.outcome.Outcome.{Outcome}
-use Rattle.panoc_core.specs.declared.outcome.Outcome.TheVariants as O
 use Rattle.panoc_core.specs.declared.outcome.Stepped.{Stepped}
-use Rattle.panoc_core.specs.Outcomes.{said}
+use Rattle.panoc_core.specs.Told.{Told, said}
+use Rattle.panoc_core.specs.Told as O
 use Rattle.factory.specs.declared.alm_factory.Sizes.{Sizes}
 use Rattle.factory.specs.declared.alm_factory.PsiQuestion.{PsiQuestion}
 use Rattle.factory.specs.declared.alm_factory.State.{State}
@@ -34,7 +33,7 @@ module _ {P V B H : Type 0} (tells : H → V) (resume : Run (State P V) B → P 
       let a : Asks tells q (begun s at (penalty_in xi) (multipliers_in xi)) = asks at (penalty_in xi) (multipliers_in xi) in
       rw e₀ (record { sizes = refl; outcome = sym a.0; process = rest_sound resume _ ok.sound ∙ begins ∙ w ∙ sym a.1 })
 
-  pub start_refuses : (t : State P V) (r : Stepped (Outcome PsiQuestion V) (State P V)) → (m ≡ 0 → ⊥) → resume (run_of t b) t.phase ≡ stop (refused 6) → t.sizes ≡ s → r ≡ stepped (O.Refused m) t.phase t
+  pub start_refuses : (t : State P V) (r : Stepped (Told PsiQuestion V) (State P V)) → (m ≡ 0 → ⊥) → resume (run_of t b) t.phase ≡ stop (refused 6) → t.sizes ≡ s → r ≡ stepped (O.Refused m) t.phase t
       → Starts tells resume begun s at xi (gave r b)
   unfolding or_refused said remains
   start_refuses t r z o i w = rw (w, ← e) (by m z)

@@ -11,10 +11,9 @@ use Rattle.factory.specs.declared.alm_factory.PsiPhase.{PsiPhase}
 use Rattle.factory.specs.declared.alm_factory.PsiBoard.{PsiBoard}
 use Rattle.factory.specs.declared.alm_factory.DPsiPhase.{DPsiPhase}
 use Rattle.factory.specs.declared.alm_factory.DPsiBoard.{DPsiBoard}
-use Rattle.panoc_core.specs.declared.outcome.Outcome.{Outcome}
 use Rattle.panoc_core.specs.declared.outcome.Stepped.{Stepped}
 use Rattle.panoc_core.specs.declared.outcome.Answered.{Answered}
-use Rattle.panoc_core.specs.Outcomes.{said}
+use Rattle.panoc_core.specs.Told.{Told, said}
 
 -- n, n1 and n2
 abbrev pub sizes_of : Sizes → S.Sizes
@@ -49,37 +48,39 @@ second_point (M.PsiQuestion.jf1t u d) = d
 second_point (M.PsiQuestion.f2 u) = []
 second_point (M.PsiQuestion.jf2t u d) = d
 
--- ---- the types of the code by the names that they have there
-
-abbrev pub PsiOutcome : Type 0
-PsiOutcome = Outcome PsiQuestion Float
+-- ---- the small part of a run, and the run
 
 abbrev pub PsiState : Type 0
 PsiState = State PsiPhase Float
 
-abbrev pub PsiStepped : Type 0
-PsiStepped = Stepped PsiOutcome PsiState
-
 abbrev pub PsiRun : Type 0
 PsiRun = Run PsiState PsiBoard
-
-abbrev pub PsiAnswered : Type 0
-PsiAnswered = Answered PsiOutcome PsiRun
-
-abbrev pub DPsiOutcome : Type 0
-DPsiOutcome = Outcome PsiQuestion (Unit {0})
 
 abbrev pub DPsiState : Type 0
 DPsiState = State DPsiPhase (Unit {0})
 
-abbrev pub DPsiStepped : Type 0
-DPsiStepped = Stepped DPsiOutcome DPsiState
-
 abbrev pub DPsiRun : Type 0
 DPsiRun = Run DPsiState DPsiBoard
 
-abbrev pub DPsiAnswered : Type 0
-DPsiAnswered = Answered DPsiOutcome DPsiRun
+-- ---- what the calls tell, alone, with the small part, and with the run
+
+abbrev pub PsiSays : Type 0
+PsiSays = Told PsiQuestion Float
+
+abbrev pub PsiStep : Type 0
+PsiStep = Stepped PsiSays PsiState
+
+abbrev pub PsiGave : Type 0
+PsiGave = Answered PsiSays PsiRun
+
+abbrev pub DPsiSays : Type 0
+DPsiSays = Told PsiQuestion (Unit {0})
+
+abbrev pub DPsiStep : Type 0
+DPsiStep = Stepped DPsiSays DPsiState
+
+abbrev pub DPsiGave : Type 0
+DPsiGave = Answered DPsiSays DPsiRun
 
 -- ---- what a call says of the process that it has come to
 
@@ -87,12 +88,12 @@ DPsiAnswered = Answered DPsiOutcome DPsiRun
 abbrev pub psi_tells : Float → Float
 psi_tells x = x
 
-abbrev pub psi_said : M.Psi → PsiOutcome
+abbrev pub psi_said : M.Psi → PsiSays
 psi_said = said question_of psi_tells
 
 -- the numbers of d_psi stand in the lent slice
 abbrev pub d_psi_tells : List Float → Unit {0}
 d_psi_tells g = tt
 
-abbrev pub d_psi_said : M.DPsi → DPsiOutcome
+abbrev pub d_psi_said : M.DPsi → DPsiSays
 d_psi_said = said question_of d_psi_tells

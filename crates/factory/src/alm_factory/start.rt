@@ -1,6 +1,7 @@
 // A start of psi or d_psi: what it tests, the table's 1 and 2, and the run that it begins.
 ghost use Rattle.std.specs.Prelude.{◌≡◌};
 ghost use Rattle.model.specs.Refusals.{psi_refusal};
+ghost use Rattle.panoc_core.specs.Told.{number_of, told, answered};
 ghost use Rattle.factory.specs.FactoryValues.{sizes_of};
 ghost use Rattle.factory.specs.FactoryRest.{sound_sizes};
 ghost use Rattle.factory.specs.FactoryCalls.{Starts};
@@ -9,7 +10,7 @@ ghost use Rattle.factory.specs.FactoryBoard.{gave};
 use crate::alm_factory::penalty::Penalty;
 use crate::alm_factory::steps::refuses;
 use crate::alm_factory::{PsiQuestion, Run, Sizes, State};
-use panoc_core::outcome::{Answered, Outcome, Stepped};
+use panoc_core::outcome::{Answered, Outcome, Refusal, Stepped};
 use start_sizes::{mappings_right, sizes_right};
 use start_tests::{multipliers_in, penalty_in};
 
@@ -21,18 +22,17 @@ pub fn sound(s: Sizes) -> bool
     s.n <= 64 && s.n1 <= 32 && s.n2 <= 32
 }
 
-// The number by which a start is refused, 0 for none; us and xis are the lengths of u and xi.
-pub fn start_refusal(s: Sizes, us: usize, xis: usize) -> u32
-    ensures { result ≡ psi_refusal (sizes_of s) us xis }
+// Why a start is refused; us and xis are the lengths of u and xi.
+#[tactic(auto, unfolding(model::specs::Refusals::psi_refusal, model::specs::Refusals::unless))]
+pub fn start_refusal(s: Sizes, us: usize, xis: usize) -> Option<Refusal>
+    ensures { number_of result ≡ psi_refusal (sizes_of s) us xis }
 {
-    if sizes_right(s.n, us) {
-        if mappings_right(s.n1, s.n2, false, xis) {
-            0
-        } else {
-            2
-        }
+    if !sizes_right(s.n, us) {
+        Some(Refusal::Sizes)
+    } else if !mappings_right(s.n1, s.n2, false, xis) {
+        Some(Refusal::Mappings)
     } else {
-        1
+        None
     }
 }
 
@@ -44,29 +44,27 @@ pub fn start_in_place<P: Penalty>(
     u: &mut [f64; 64],
     y: &mut [f64; 64],
 ) -> Stepped<Outcome<PsiQuestion, P::Value>, State<P, P::Value>>
-    ensures { (b : P.Board) → Starts P.tells P.resume P.begun sizes at.now xi.now (gave result (P.with_uy u.new y.new b)) }
+    ensures { (b : P.Board) → Starts P.tells P.resume P.begun sizes at.now xi.now (gave (told result) (P.with_uy u.new y.new b)) }
 {
-    let number = start_refusal(sizes, at.len(), xi.len());
-    if number == 0 {
-        vector_copies::take_into(at, u);
-        multipliers_in(xi, y);
-        Stepped {
-            outcome: Outcome::Asked(P::asks_first()),
-            state: State {
-                phase: P::first(),
-                sizes,
-                c: penalty_in(xi),
-                value: P::nothing(),
-            },
-        }
-    } else {
+    if let Some(refusal) = start_refusal(sizes, at.len(), xi.len()) {
         let state = State {
             phase: P::over(),
             sizes,
             c: 0.0,
             value: P::nothing(),
         };
-        refuses(state, number)
+        return refuses(state, refusal);
+    }
+    vector_copies::take_into(at, u);
+    multipliers_in(xi, y);
+    Stepped {
+        outcome: Outcome::Asked(P::asks_first()),
+        state: State {
+            phase: P::first(),
+            sizes,
+            c: penalty_in(xi),
+            value: P::nothing(),
+        },
     }
 }
 
@@ -76,7 +74,7 @@ pub fn start<P: Penalty>(
     at: &[f64],
     xi: &[f64],
 ) -> Answered<Outcome<PsiQuestion, P::Value>, Run<State<P, P::Value>, P::Board>>
-    ensures { Starts P.tells P.resume P.begun sizes at.now xi.now result }
+    ensures { Starts P.tells P.resume P.begun sizes at.now xi.now (answered result) }
 {
     let mut u = vector_copies::zeros();
     let mut y = vector_copies::zeros();

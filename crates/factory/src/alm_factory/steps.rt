@@ -1,12 +1,13 @@
 // The small part of a run, moved on.
 ghost use Rattle.std.specs.Prelude.{◌≡◌};
+ghost use Rattle.panoc_core.specs.Told.{Refused, numbered, refusal_number, told};
 ghost use Rattle.panoc_core.specs.Values.{kind_of};
 ghost use Rattle.factory.specs.FactoryBoard.{stepped, kind};
 
 use crate::alm_factory::penalty::Penalty;
 use crate::alm_factory::start::sound;
 use crate::alm_factory::{PsiQuestion, State};
-use panoc_core::outcome::{Outcome, Stepped};
+use panoc_core::outcome::{Outcome, Refusal, Stepped};
 use panoc_core::refusals::Wanted;
 
 // On to another phase, with what the call says.
@@ -15,7 +16,7 @@ pub fn to<P: Copy, V: Copy>(
     phase: P,
     outcome: Outcome<PsiQuestion, V>,
 ) -> Stepped<Outcome<PsiQuestion, V>, State<P, V>>
-    ensures { result ≡ stepped outcome phase s }
+    ensures { told result ≡ stepped (numbered outcome) phase s }
 {
     Stepped {
         outcome,
@@ -23,20 +24,21 @@ pub fn to<P: Copy, V: Copy>(
     }
 }
 
-// The run as it was, with the number of a refusal.
+// The run as it was, with a refusal.
 pub fn refuses<P: Copy, V: Copy>(
     s: State<P, V>,
-    number: u32,
+    refusal: Refusal,
 ) -> Stepped<Outcome<PsiQuestion, V>, State<P, V>>
-    ensures { result ≡ stepped (Outcome.Refused number) s.phase s }
+    ensures { told result ≡ stepped (Refused (refusal_number refusal)) s.phase s }
 {
     Stepped {
-        outcome: Outcome::Refused(number),
+        outcome: Outcome::Refused(refusal),
         state: s,
     }
 }
 
 // What the run waits for: nothing where it has ended, or where no start made it.
+#[tactic(auto, unfolding(crate::specs::FactoryBoard::kind))]
 pub fn wants<P: Penalty>(s: State<P, P::Value>) -> Option<Wanted>
     ensures { kind_of result ≡ kind P.kind_at s }
 {
