@@ -26,8 +26,10 @@ use Rattle.factory.specs.declared.alm_factory.Sizes.{Sizes}
 use Rattle.factory.specs.declared.alm_factory.PsiQuestion.TheVariants as Q
 use Rattle.factory.specs.declared.alm_factory.PsiPhase.{PsiPhase}
 use Rattle.factory.specs.declared.alm_factory.PsiPhase.TheVariants as P
-use Rattle.panoc_core.specs.declared.outcome.Outcome.TheVariants as O
-use Rattle.factory.specs.FactoryValues.{psi_tells, PsiState, PsiStepped}
+use Rattle.panoc_core.specs.declared.outcome.Refusal.{Refusal}
+use Rattle.panoc_core.specs.Told as O
+use Rattle.panoc_core.specs.Numbers.{refusal_some}
+use Rattle.factory.specs.FactoryValues.{psi_tells, PsiState, PsiStep}
 use Rattle.factory.specs.FactoryRest.{psi_resume, psi_rest}
 use Rattle.factory.specs.FactoryCalls.{PsiReaches, PsiAnswers}
 use Rattle.factory.specs.FactoryBoard.{Sound, run_of, gave, with_value, stepped, PsiTakes, psi_f2_at, psi_kind_at, psi_kind, psi_w, psi_tw}
@@ -74,7 +76,7 @@ pub vector_not_cost : (s : PsiState) (vs : ℕ) → answer_refusal (psi_kind s) 
 vector_not_cost s vs e q = vector_for_number vs true (accepted_at psi_kind_at s R.Reply.vector vs true e P.Cost q).1
 
 -- ---- an answer of the kind asked
-module _ (s : PsiState) (b b' : PsiBoard) (r : PsiStepped) (h : Sound s.sizes) (p : PsiPhase) (e : s.phase ≡ p) (q : M.PsiQuestion) (v : List Float) where
+module _ (s : PsiState) (b b' : PsiBoard) (r : PsiStep) (h : Sound s.sizes) (p : PsiPhase) (e : s.phase ≡ p) (q : M.PsiQuestion) (v : List Float) where
   number_taken : (continue : Float → M.Psi) (x : Float) → psi_resume (run_of s b) p ≡ ask q Kind.number continue → PsiReaches s.sizes (continue x) (gave r b')
       → PsiTakes s b (Number x) v r b'
   number_taken continue x w c = rw (takes_number psi_resume s b p q continue x v h e w) c
@@ -84,7 +86,7 @@ module _ (s : PsiState) (b b' : PsiBoard) (r : PsiStepped) (h : Sound s.sizes) (
   vector_taken n continue w c = rw (takes_vector psi_resume s b p q n continue v h e w) c
 
 -- ---- one law for each return of a handler
-module _ (s : PsiState) (b : PsiBoard) (ok : Sound s.sizes) (r : PsiStepped) where
+module _ (s : PsiState) (b : PsiBoard) (ok : Sound s.sizes) (r : PsiStep) where
   pub f2_asked : (s.sizes.n2 ≡ 0 → ⊥) → r ≡ stepped (O.Asked Q.F2) P.F2 s → PsiReaches s.sizes (psi_f2_at s b) (gave r b)
   unfolding S.psi_ask_f2 psi_resume
   f2_asked z e = rw (ne_eqb _ _ z) (asks_comes psi_tells psi_resume s b P.F2 r _ _ _ ok e refl)
@@ -127,28 +129,33 @@ module _ (s : PsiState) (b : PsiBoard) (ok : Sound s.sizes) (r : PsiStepped) whe
       vector_taken s b (psi_w w b) r ok P.F2 p _ v _ _ refl (rw (← z≡) (ends_comes psi_tells psi_resume s (psi_w w b) P.Over r z refl e))
 
 -- ---- one answer
-module _ (s : PsiState) (b b' : PsiBoard) (a : Reply) (v : List Float) (r : PsiStepped) where
+
+-- the number of the table, by what the run waits for
+told_number : (s : PsiState) (b : PsiBoard) (a : Reply) (v : List Float) (k : Option Kind) → k ≡ psi_kind s → (m : ℕ) → m ≡ answer_refusal k (reply_of a) (length v) true
+    → m ≡ answer_refusal (wanted (psi_rest (run_of s b))) (reply_of a) (length v) true
+told_number s b a v k h m e = e ∙ ap (λ (o : Option Kind). answer_refusal o (reply_of a) (length v) true) (h ∙ sym (wanted_is psi_resume psi_kind_at psi_kinds s b))
+
+module _ (s : PsiState) (b b' : PsiBoard) (a : Reply) (v : List Float) (r : PsiStep) where
   pub took_number : (x : Float) → a ≡ Number x → PsiTakes s b (Number x) v r b' → PsiTakes s b a v r b'
   took_number x e w = subst (λ (z : Reply). PsiTakes s b z v r b') (sym e) w
 
   pub took_vector : a ≡ Vector → PsiTakes s b Vector v r b' → PsiTakes s b a v r b'
   took_vector e w = subst (λ (z : Reply). PsiTakes s b z v r b') (sym e) w
 
-  pub answer_goes : (m : ℕ) → m ≡ answer_refusal (psi_kind s) (reply_of a) (length v) true → m ≡ 0 → PsiTakes s b a v r b' → PsiAnswers (run_of s b) a v (gave r b')
-  answer_goes m e z w =
-      let k : answer_refusal (wanted (psi_rest (run_of s b))) (reply_of a) (length v) true ≡ 0 = ap (λ (o : Option Kind). answer_refusal o (reply_of a) (length v) true) (wanted_is psi_resume psi_kind_at psi_kinds s b) ∙ sym e ∙ z in
-      record { refused = λ i q. absurd (omega (arith, k, q)); accepted = λ q. w }
+  pub answer_goes : (k : Option Kind) → k ≡ psi_kind s → 0 ≡ answer_refusal k (reply_of a) (length v) true → PsiTakes s b a v r b' → PsiAnswers (run_of s b) a v (gave r b')
+  answer_goes k h e w = record { refused = λ i q. absurd (omega (arith, told_number s b a v k h 0 e, q)); accepted = λ q. w }
 
-module _ (s : PsiState) (b : PsiBoard) (a : Reply) (v : List Float) (r : PsiStepped) where
+module _ (s : PsiState) (b : PsiBoard) (a : Reply) (v : List Float) (r : PsiStep) where
   pub took_failure : (c : ℕ) → a ≡ Failure c → answer_refusal (psi_kind s) (reply_of a) (length v) true ≡ 0 → r ≡ stepped (O.Failed c) P.Over s → PsiTakes s b a v r b
   took_failure c q e w =
       let k : answer_refusal (psi_kind s) (R.Reply.failure c) (length v) true ≡ 0 = subst (λ (z : Reply). answer_refusal (psi_kind s) (reply_of z) (length v) true ≡ 0) q e in
       subst (λ (z : Reply). PsiTakes s b z v r b) (sym q) (rw (takes_failure psi_resume psi_kind_at psi_kinds s b c v (length v) true k) (fails_comes psi_tells psi_resume s b P.Over r c (psi_ends _) w))
 
-  pub answer_refused : (m : ℕ) → m ≡ answer_refusal (psi_kind s) (reply_of a) (length v) true → (m ≡ 0 → ⊥) → r ≡ stepped (O.Refused m) s.phase s → PsiAnswers (run_of s b) a v (gave r b)
-  answer_refused m e z w =
-      let k : m ≡ answer_refusal (wanted (psi_rest (run_of s b))) (reply_of a) (length v) true = e ∙ ap (λ (o : Option Kind). answer_refusal o (reply_of a) (length v) true) (sym (wanted_is psi_resume psi_kind_at psi_kinds s b)) in
+  pub answer_refused : (f : Refusal) (k : Option Kind) → k ≡ psi_kind s → O.refusal_number f ≡ answer_refusal k (reply_of a) (length v) true → r ≡ stepped (O.Refused (O.refusal_number f)) s.phase s
+      → PsiAnswers (run_of s b) a v (gave r b)
+  answer_refused f k h e w =
+      let m : O.refusal_number f ≡ answer_refusal (wanted (psi_rest (run_of s b))) (reply_of a) (length v) true = told_number s b a v k h _ e in
       record {
-        refused = λ i q. (ap (λ (t : PsiStepped). t.outcome) w ∙ ap O.Refused (k ∙ q), ap (λ (t : PsiStepped). run_of t.state b) w);
-        accepted = λ q. absurd (z (k ∙ q));
+        refused = λ i q. (ap (λ (t : PsiStep). t.outcome) w ∙ ap O.Refused (m ∙ q), ap (λ (t : PsiStep). run_of t.state b) w);
+        accepted = λ q. absurd (refusal_some f (m ∙ q));
       }

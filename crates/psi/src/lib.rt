@@ -1,8 +1,11 @@
 // psi: f + (c/2) × |t - P|² + (c/2) × |F2|², t = F1 + y / max(c, 1), P its projection on C.
 #![tactic(auto)]
 
+// The public calls take any run, also one that no start made: `wants` tests its sizes once, and the handlers ask for `Sound s.sizes`.
+// Beside the handlers of d_psi, which have other phases and other vectors: each is a few calls of what both share.
 ghost use Rattle.std.specs.Prelude.{◌≡◌, true, List, Float, length};
 ghost use Rattle.model.specs.Refusals.{answer_refusal};
+ghost use Rattle.panoc_core.specs.Told.{told, answered};
 ghost use Rattle.panoc_core.specs.Values.{reply_of, kind_of};
 ghost use Rattle.factory.specs.declared.alm_factory.PsiBoard.{PsiBoard};
 ghost use Rattle.factory.specs.FactoryCalls.{PsiReaches, PsiAnswers};
@@ -13,6 +16,7 @@ use factory::alm_factory::terms::shifted_into;
 use factory::alm_factory::{
     PsiAnswered, PsiBoard, PsiOutcome, PsiPhase, PsiQuestion, PsiRun, PsiState, PsiStepped,
 };
+use panoc_core::outcome::Refusal;
 use panoc_core::panoc_cache::Reply;
 use panoc_core::refusals::refusal;
 use penalty_terms::{divisor, penalized};
@@ -20,7 +24,7 @@ use penalty_terms::{divisor, penalized};
 // The part of F1 is in the value: F2, or the end where there is none.
 fn ask_f2(s: PsiState) -> PsiStepped
     requires { Sound s.sizes }
-    ensures { (b : PsiBoard) → PsiReaches s.sizes (psi_f2_at s b) (gave result b) }
+    ensures { (b : PsiBoard) → PsiReaches s.sizes (psi_f2_at s b) (gave (told result) b) }
 {
     if s.sizes.n2 == 0 {
         to(s, PsiPhase::Over, PsiOutcome::Ended(s.value))
@@ -32,7 +36,7 @@ fn ask_f2(s: PsiState) -> PsiStepped
 // The cost of f at u is x.
 fn on_cost(s: PsiState, x: f64) -> PsiStepped
     requires { (Sound s.sizes) × (s.phase ≡ PsiPhase.Cost) }
-    ensures { (b : PsiBoard) → (v : List Float) → PsiTakes s b (Reply.Number x) v result b }
+    ensures { (b : PsiBoard) → (v : List Float) → PsiTakes s b (Reply.Number x) v (told result) b }
 {
     let p = PsiState { value: x, ..s };
     if s.sizes.n1 == 0 {
@@ -43,6 +47,7 @@ fn on_cost(s: PsiState, x: f64) -> PsiStepped
 }
 
 // F1 at u is v.
+#[tactic(auto, using(factory::specs::FactoryLaws::sound_n1))]
 fn on_f1(
     s: PsiState,
     v: &[f64],
@@ -51,7 +56,7 @@ fn on_f1(
     work: &mut [f64; 64],
 ) -> PsiStepped
     requires { (Sound s.sizes) × (s.phase ≡ PsiPhase.F1) × (length v.now ≡ s.sizes.n1) }
-    ensures { (b : PsiBoard) → PsiTakes s (psi_ytw y.now t.old work.old b) Reply.Vector v.now result (psi_ytw y.now t.new work.new b) }
+    ensures { (b : PsiBoard) → PsiTakes s (psi_ytw y.now t.old work.old b) Reply.Vector v.now (told result) (psi_ytw y.now t.new work.new b) }
 {
     shifted_into(divisor(s.c), v, y, t, work);
     to(
@@ -62,9 +67,10 @@ fn on_f1(
 }
 
 // The projection of t is v.
+#[tactic(auto, using(factory::specs::FactoryLaws::sound_n1))]
 fn on_project_c(s: PsiState, v: &[f64], t: &[f64; 64], work: &mut [f64; 64]) -> PsiStepped
     requires { (Sound s.sizes) × (s.phase ≡ PsiPhase.ProjectC) × (length v.now ≡ s.sizes.n1) }
-    ensures { (b : PsiBoard) → PsiTakes s (psi_tw t.now work.old b) Reply.Vector v.now result (psi_tw t.now work.new b) }
+    ensures { (b : PsiBoard) → PsiTakes s (psi_tw t.now work.old b) Reply.Vector v.now (told result) (psi_tw t.now work.new b) }
 {
     vector_copies::take_into(v, work);
     let distance = matrix_operations::norm2_squared_diff(t, work, s.sizes.n1);
@@ -73,9 +79,10 @@ fn on_project_c(s: PsiState, v: &[f64], t: &[f64; 64], work: &mut [f64; 64]) -> 
 }
 
 // F2 at u is v.
+#[tactic(auto, using(factory::specs::FactoryLaws::sound_n2))]
 fn on_f2(s: PsiState, v: &[f64], work: &mut [f64; 64]) -> PsiStepped
     requires { (Sound s.sizes) × (s.phase ≡ PsiPhase.F2) × (length v.now ≡ s.sizes.n2) }
-    ensures { (b : PsiBoard) → PsiTakes s (psi_w work.old b) Reply.Vector v.now result (psi_w work.new b) }
+    ensures { (b : PsiBoard) → PsiTakes s (psi_w work.old b) Reply.Vector v.now (told result) (psi_w work.new b) }
 {
     vector_copies::take_into(v, work);
     let norm = matrix_operations::norm2_squared(work, s.sizes.n2);
@@ -83,7 +90,8 @@ fn on_f2(s: PsiState, v: &[f64], work: &mut [f64; 64]) -> PsiStepped
     to(s, PsiPhase::Over, PsiOutcome::Ended(value))
 }
 
-// A vector that was asked for.
+// A vector that was asked for: each phase has a handler of its own, with the vectors that it needs.
+#[tactic(auto, using(factory::specs::FactoryRuns::vector_not_over, crate::proofs::PsiLaws::vector_not_cost))]
 fn on_vector(
     s: PsiState,
     v: &[f64],
@@ -92,18 +100,19 @@ fn on_vector(
     work: &mut [f64; 64],
 ) -> PsiStepped
     requires { answer_refusal (psi_kind s) (reply_of Reply.Vector) (length v.now) true ≡ 0 }
-    ensures { (b : PsiBoard) → PsiTakes s (psi_ytw y.now t.old work.old b) Reply.Vector v.now result (psi_ytw y.now t.new work.new b) }
+    ensures { (b : PsiBoard) → PsiTakes s (psi_ytw y.now t.old work.old b) Reply.Vector v.now (told result) (psi_ytw y.now t.new work.new b) }
 {
     match s.phase {
         PsiPhase::F1 => on_f1(s, v, y, t, work),
         PsiPhase::ProjectC => on_project_c(s, v, t, work),
         PsiPhase::F2 => on_f2(s, v, work),
-        PsiPhase::Cost => refuses(s, 7),
-        PsiPhase::Over => refuses(s, 6),
+        PsiPhase::Cost => refuses(s, Refusal::Kind),
+        PsiPhase::Over => refuses(s, Refusal::Over),
     }
 }
 
 // An answer that nothing refuses.
+#[tactic(auto, using(crate::proofs::PsiLaws::vector_accepted, crate::proofs::PsiLaws::yes_not, crate::proofs::PsiLaws::no_not))]
 fn step(
     s: PsiState,
     a: Reply,
@@ -113,13 +122,13 @@ fn step(
     work: &mut [f64; 64],
 ) -> PsiStepped
     requires { answer_refusal (psi_kind s) (reply_of a) (length v.now) true ≡ 0 }
-    ensures { (b : PsiBoard) → PsiTakes s (psi_ytw y.now t.old work.old b) a v.now result (psi_ytw y.now t.new work.new b) }
+    ensures { (b : PsiBoard) → PsiTakes s (psi_ytw y.now t.old work.old b) a v.now (told result) (psi_ytw y.now t.new work.new b) }
 {
     match a {
         Reply::Number(x) => on_cost(s, x),
         Reply::Vector => on_vector(s, v, y, t, work),
         Reply::Failure(code) => to(s, PsiPhase::Over, PsiOutcome::Failed(code)),
-        Reply::Yes | Reply::No => refuses(s, 7),
+        Reply::Yes | Reply::No => refuses(s, Refusal::Kind),
     }
 }
 
@@ -132,19 +141,17 @@ pub fn answer_in_place(
     t: &mut [f64; 64],
     work: &mut [f64; 64],
 ) -> PsiStepped
-    ensures { (b : PsiBoard) → PsiAnswers (run_of s (psi_ytw y.now t.old work.old b)) a v.now (gave result (psi_ytw y.now t.new work.new b)) }
+    ensures { (b : PsiBoard) → PsiAnswers (run_of s (psi_ytw y.now t.old work.old b)) a v.now (gave (told result) (psi_ytw y.now t.new work.new b)) }
 {
-    let number = refusal(wants(s), a, v.len(), true);
-    if number == 0 {
-        step(s, a, v, y, t, work)
-    } else {
-        refuses(s, number)
+    match refusal(wants(s), a, v.len(), true) {
+        None => step(s, a, v, y, t, work),
+        Some(refusal) => refuses(s, refusal),
     }
 }
 
 // An answer to the question of a run by value. Beside that of d_psi, which is lent a result.
 pub fn answer(run: PsiRun, a: Reply, v: &[f64]) -> PsiAnswered
-    ensures { PsiAnswers run a v.now result }
+    ensures { PsiAnswers run a v.now (answered result) }
 {
     let mut t = run.board.t;
     let mut work = run.board.work;

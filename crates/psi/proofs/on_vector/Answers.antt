@@ -1,7 +1,6 @@
 use Rattle.factory.specs.declared.alm_factory.PsiPhase.TheVariants as P
 use Rattle.std.proofs.Common.{refl}
-use Rattle.psi.proofs.PsiLaws.{vector_not_cost}
-use Rattle.factory.specs.FactoryRuns.{vector_at, vector_not_over}
+use Rattle.factory.specs.FactoryRuns.{vector_at}
 use Rattle.factory.specs.FactoryBoard.{psi_ytw, psi_kind_at}
 use Rattle.psi.proofs.on_vector.Goals as goal
 
@@ -14,17 +13,8 @@ on_project_c-requires c = vector_at psi_kind_at c.args.s _ c.requires P.ProjectC
 pub on_f2-requires : goal.on_f2-requires
 on_f2-requires c = vector_at psi_kind_at c.args.s _ c.requires P.F2 c.in-F2.is _ refl
 
-pub returns-in-F1 : goal.returns-in-F1
-returns-in-F1 c = λ b. c.on_f1.ensures b
-
 pub returns-in-ProjectC : goal.returns-in-ProjectC
 returns-in-ProjectC c = λ b. c.on_project_c.ensures (psi_ytw c.args.y.now c.args.t.now c.args.work.now b)
 
 pub returns-in-F2 : goal.returns-in-F2
 returns-in-F2 c = λ b. c.on_f2.ensures (psi_ytw c.args.y.now c.args.t.now c.args.work.now b)
-
-pub returns-in-Cost : goal.returns-in-Cost
-returns-in-Cost c = absurd (vector_not_cost c.args.s _ c.requires c.in-Cost.is)
-
-pub returns-in-Over : goal.returns-in-Over
-returns-in-Over c = absurd (vector_not_over psi_kind_at c.args.s _ c.requires P.Over c.in-Over.is refl)

@@ -1,13 +1,9 @@
-use Rattle.std.proofs.Common.{⊎_elim}
-use Rattle.psi.proofs.PsiLaws.{cost_phase, vector_accepted, yes_not, no_not, took_number, took_vector, took_failure}
+use Rattle.psi.proofs.PsiLaws.{cost_phase, took_number, took_vector, took_failure}
 use Rattle.factory.specs.FactoryBoard.{psi_ytw}
 use Rattle.psi.proofs.step.Goals as goal
 
 pub on_cost-requires : goal.on_cost-requires
 on_cost-requires c = cost_phase c.args.s _ _ _ c.requires _ c.in-Number.is
-
-pub on_vector-requires : goal.on_vector-requires
-on_vector-requires c = vector_accepted c.args.s _ _ _ c.requires c.in-Vector.is
 
 pub returns-in-Number : goal.returns-in-Number
 returns-in-Number c = λ b. took_number c.args.s (psi_ytw c.args.y.now c.args.t.now c.args.work.now b) (psi_ytw c.args.y.now c.args.t.now c.args.work.now b) c.args.a c.args.v.now _ _ c.in-Number.is (c.on_cost.ensures (psi_ytw c.args.y.now c.args.t.now c.args.work.now b) c.args.v.now)
@@ -17,6 +13,3 @@ returns-in-Vector c = λ b. took_vector c.args.s (psi_ytw c.args.y.now c.args.t.
 
 pub returns-in-Failure : goal.returns-in-Failure
 returns-in-Failure c = λ b. took_failure c.args.s (psi_ytw c.args.y.now c.args.t.now c.args.work.now b) c.args.a c.args.v.now _ _ c.in-Failure.is c.requires c.to.ensures
-
-pub returns-in-Yes : goal.returns-in-Yes
-returns-in-Yes c = absurd (⊎_elim (yes_not c.args.s _ _ _ c.requires) (no_not c.args.s _ _ _ c.requires) c.in-Yes.is)
