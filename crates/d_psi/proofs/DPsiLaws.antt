@@ -24,12 +24,15 @@ use Rattle.factory.specs.declared.alm_factory.Sizes.{Sizes}
 use Rattle.factory.specs.declared.alm_factory.PsiQuestion.TheVariants as Q
 use Rattle.factory.specs.declared.alm_factory.DPsiPhase.{DPsiPhase}
 use Rattle.factory.specs.declared.alm_factory.DPsiPhase.TheVariants as P
-use Rattle.panoc_core.specs.declared.outcome.Outcome.TheVariants as O
-use Rattle.factory.specs.FactoryValues.{sizes_of, question_of, d_psi_tells, DPsiState, DPsiStepped}
+use Rattle.panoc_core.specs.declared.outcome.Refusal.{Refusal}
+use Rattle.panoc_core.specs.Told.{given}
+use Rattle.panoc_core.specs.Told as O
+use Rattle.panoc_core.specs.Numbers.{refusal_some}
+use Rattle.factory.specs.FactoryValues.{sizes_of, question_of, d_psi_tells, DPsiState, DPsiStep}
 use Rattle.factory.specs.FactoryRest.{d_psi_resume, d_psi_rest}
 use Rattle.factory.specs.FactoryCalls.{DPsiAnswers}
-use Rattle.factory.specs.FactoryBoard.{Sound, at, run_of, gave, stepped, given, DPsiComes, DPsiTakes, d_psi_f2_at, d_psi_kind_at, d_psi_kind, d_psi_g, d_psi_gw, d_psi_d, d_psi_ytw, d_psi_tdw}
-use Rattle.factory.specs.FactoryLaws.{taken, sound_n, accepted_number, accepted_yes, accepted_no, accepted_result}
+use Rattle.factory.specs.FactoryBoard.{Sound, at, run_of, gave, stepped, DPsiComes, DPsiTakes, d_psi_f2_at, d_psi_kind_at, d_psi_kind, d_psi_g, d_psi_gw, d_psi_d, d_psi_ytw, d_psi_tdw}
+use Rattle.factory.specs.FactoryLaws.{taken, sound_n, accepted_number, accepted_yes, accepted_no, accepted_true, accepted_result}
 use Rattle.factory.specs.FactoryPenalties.{d_psi_ends, d_psi_kinds}
 use Rattle.factory.specs.FactoryRuns.{takes_vector, asks_comes, ends_comes, fails_comes, accepted_at, wanted_is, takes_failure}
 
@@ -71,22 +74,22 @@ module _ (s : DPsiState) (a : Reply) (vs : ℕ) (e : answer_refusal (d_psi_kind 
   vector_accepted q = subst (λ (z : Reply). answer_refusal (d_psi_kind s) (reply_of z) vs true ≡ 0) q e
 
 -- ---- an answer of the kind asked
-vector_taken : (s : DPsiState) (b b' : DPsiBoard) (r : DPsiStepped) → Sound s.sizes → (p : DPsiPhase) → s.phase ≡ p → (q : M.PsiQuestion) (v : List Float) (n : ℕ) (continue : List Float → M.DPsi)
+vector_taken : (s : DPsiState) (b b' : DPsiBoard) (r : DPsiStep) → Sound s.sizes → (p : DPsiPhase) → s.phase ≡ p → (q : M.PsiQuestion) (v : List Float) (n : ℕ) (continue : List Float → M.DPsi)
     → d_psi_resume (run_of s b) p ≡ ask q (Kind.vector n) continue → DPsiComes s.sizes (continue v) r b' → DPsiTakes s b Vector v r b'
 vector_taken s b b' r h p e q v n continue w c = rw (takes_vector d_psi_resume s b p q n continue v h e w) c
 
 -- ---- a question, and the end: nothing lent is written yet
-asks : (t : DPsiState) (b : DPsiBoard) (p : DPsiPhase) (q : M.PsiQuestion) (k : Kind) (continue : Answer k → M.DPsi) (r : DPsiStepped) → Sound t.sizes
+asks : (t : DPsiState) (b : DPsiBoard) (p : DPsiPhase) (q : M.PsiQuestion) (k : Kind) (continue : Answer k → M.DPsi) (r : DPsiStep) → Sound t.sizes
     → r ≡ stepped (O.Asked (question_of q)) p t → d_psi_resume (run_of (at p t) b) p ≡ ask q k continue → DPsiComes t.sizes (ask q k continue) r b
 unfolding lent_after given
 asks t b p q k continue r h e w = record { reaches = asks_comes d_psi_tells d_psi_resume t b p r q k continue h e w; result = λ us. rw e refl }
 
-ends : (t : DPsiState) (b : DPsiBoard) (r : DPsiStepped) → r ≡ stepped (O.Ended tt) P.Over t → DPsiComes t.sizes (stop (handed (firsts t.sizes.n b.gradient))) r b
+ends : (t : DPsiState) (b : DPsiBoard) (r : DPsiStep) → r ≡ stepped (O.Ended tt) P.Over t → DPsiComes t.sizes (stop (handed (firsts t.sizes.n b.gradient))) r b
 unfolding lent_after lent_at given
 ends t b r e = record { reaches = ends_comes d_psi_tells d_psi_resume t b P.Over r _ (d_psi_ends _) e; result = λ us. rw e refl }
 
 -- ---- one law for each return of a handler
-module _ (s : DPsiState) (b : DPsiBoard) (ok : Sound s.sizes) (r : DPsiStepped) where
+module _ (s : DPsiState) (b : DPsiBoard) (ok : Sound s.sizes) (r : DPsiStep) where
   pub f2_asked : (s.sizes.n2 ≡ 0 → ⊥) → r ≡ stepped (O.Asked Q.F2) P.F2 s → DPsiComes s.sizes (d_psi_f2_at s b) r b
   unfolding S.d_psi_ask_f2 d_psi_resume
   f2_asked z e = rw (ne_eqb _ _ z) (asks s b P.F2 _ _ _ r ok e refl)
@@ -146,10 +149,10 @@ module _ (s : DPsiState) (b : DPsiBoard) (ok : Sound s.sizes) (r : DPsiStepped) 
       (subst (λ (x : List Float). DPsiComes s.sizes (stop (handed x)) r (d_psi_gw g w b)) gv (ends s (d_psi_gw g w b) r e))
 
 -- ---- one answer
-pub took_vector : (s : DPsiState) (b b' : DPsiBoard) (a : Reply) (v : List Float) (r : DPsiStepped) → a ≡ Vector → DPsiTakes s b Vector v r b' → DPsiTakes s b a v r b'
+pub took_vector : (s : DPsiState) (b b' : DPsiBoard) (a : Reply) (v : List Float) (r : DPsiStep) → a ≡ Vector → DPsiTakes s b Vector v r b' → DPsiTakes s b a v r b'
 took_vector s b b' a v r e w = subst (λ (z : Reply). DPsiTakes s b z v r b') (sym e) w
 
-pub took_failure : (s : DPsiState) (b : DPsiBoard) (a : Reply) (v : List Float) (r : DPsiStepped) (c : ℕ) → a ≡ Failure c → answer_refusal (d_psi_kind s) (reply_of a) (length v) true ≡ 0
+pub took_failure : (s : DPsiState) (b : DPsiBoard) (a : Reply) (v : List Float) (r : DPsiStep) (c : ℕ) → a ≡ Failure c → answer_refusal (d_psi_kind s) (reply_of a) (length v) true ≡ 0
     → r ≡ stepped (O.Failed c) P.Over s → DPsiTakes s b a v r b
 unfolding lent_after lent_at given
 took_failure s b a v r c q e w =
@@ -158,33 +161,43 @@ took_failure s b a v r c q e w =
     (rw (takes_failure d_psi_resume d_psi_kind_at d_psi_kinds s b c v (length v) true k)
     (record { reaches = fails_comes d_psi_tells d_psi_resume s b P.Over r c (d_psi_ends _) w; result = λ us. rw w refl }))
 
-module _ (s : DPsiState) (a : Reply) (v us : List Float) (m : ℕ) (e : m ≡ answer_refusal (d_psi_kind s) (reply_of a) (length v) (eqb (length us) s.sizes.n)) where
-  number_is : (b : DPsiBoard) → m ≡ answer_refusal (wanted (d_psi_rest (run_of s b))) (reply_of a) (length v) (eqb (length us) s.sizes.n)
-  number_is b = e ∙ ap (λ (o : Option Kind). answer_refusal o (reply_of a) (length v) (eqb (length us) s.sizes.n)) (sym (wanted_is d_psi_resume d_psi_kind_at d_psi_kinds s b))
+-- k is what the run waits for
+module _ (s : DPsiState) (a : Reply) (v us : List Float) (k : Option Kind) (h : k ≡ d_psi_kind s) where
+  told_number : (b : DPsiBoard) (m : ℕ) → m ≡ answer_refusal k (reply_of a) (length v) (eqb (length us) s.sizes.n)
+      → m ≡ answer_refusal (wanted (d_psi_rest (run_of s b))) (reply_of a) (length v) (eqb (length us) s.sizes.n)
+  told_number b m e = e ∙ ap (λ (o : Option Kind). answer_refusal o (reply_of a) (length v) (eqb (length us) s.sizes.n)) (h ∙ sym (wanted_is d_psi_resume d_psi_kind_at d_psi_kinds s b))
 
-  -- the lent result has n places, which are at most 64
-  pub result_fits : m ≡ 0 → length us ≤ 64
-  result_fits z =
-      let l : length us ≡ s.sizes.n = accepted_result _ _ _ _ _ (sym e ∙ z) in
-      let h : s.sizes.n ≤ 64 = sound_n s.sizes (accepted_at d_psi_kind_at s _ _ _ (sym e ∙ z) s.phase refl).0 in
-      omega arith
+  module _ (e : 0 ≡ answer_refusal k (reply_of a) (length v) (eqb (length us) s.sizes.n)) where
+    accepted_kind : answer_refusal (d_psi_kind s) (reply_of a) (length v) (eqb (length us) s.sizes.n) ≡ 0
+    accepted_kind = rw (← h) (sym e)
 
-  pub answer_goes : (b b' : DPsiBoard) (r : DPsiStepped) (ws : List Float) → m ≡ 0 → DPsiTakes s b a v r b' → ws ≡ given r.outcome (firsts (length us) b'.gradient) us
-      → DPsiAnswers (run_of s b) a v us ws (gave r b')
-  answer_goes b b' r ws z w g =
+    pub step_fits : answer_refusal (d_psi_kind s) (reply_of a) (length v) true ≡ 0
+    step_fits = accepted_true _ _ _ _ accepted_kind
+
+    -- the lent result has n places, which are at most 64
+    pub result_fits : length us ≤ 64
+    result_fits =
+        let l : length us ≡ s.sizes.n = accepted_result _ _ _ _ _ accepted_kind in
+        let n : s.sizes.n ≤ 64 = sound_n s.sizes (accepted_at d_psi_kind_at s _ _ _ accepted_kind s.phase refl).0 in
+        omega arith
+
+    pub answer_goes : (b b' : DPsiBoard) (r : DPsiStep) (ws : List Float) → DPsiTakes s b a v r b' → ws ≡ given r.outcome (firsts (length us) b'.gradient) us
+        → DPsiAnswers (run_of s b) a v us ws (gave r b')
+    answer_goes b b' r ws w g =
+        record {
+          refused = λ i q. absurd (omega (arith, told_number b 0 e, q));
+          accepted = λ q. record {
+            sizes = w.reaches.sizes;
+            outcome = w.reaches.outcome;
+            process = w.reaches.process;
+            wrote = g ∙ ap (λ (n : ℕ). given r.outcome (firsts n b'.gradient) us) (accepted_result _ _ _ _ _ accepted_kind) ∙ sym (w.result us);
+          };
+        }
+
+  pub answer_refused : (f : Refusal) → O.refusal_number f ≡ answer_refusal k (reply_of a) (length v) (eqb (length us) s.sizes.n) → (b : DPsiBoard) (r : DPsiStep)
+      → r ≡ stepped (O.Refused (O.refusal_number f)) s.phase s → DPsiAnswers (run_of s b) a v us us (gave r b)
+  answer_refused f e b r w =
       record {
-        refused = λ i q. absurd (omega (arith, sym (number_is b) ∙ z, q));
-        accepted = λ q. record {
-          sizes = w.reaches.sizes;
-          outcome = w.reaches.outcome;
-          process = w.reaches.process;
-          wrote = g ∙ ap (λ (k : ℕ). given r.outcome (firsts k b'.gradient) us) (accepted_result _ _ _ _ _ (sym e ∙ z)) ∙ sym (w.result us);
-        };
-      }
-
-  pub answer_refused : (b : DPsiBoard) (r : DPsiStepped) → (m ≡ 0 → ⊥) → r ≡ stepped (O.Refused m) s.phase s → DPsiAnswers (run_of s b) a v us us (gave r b)
-  answer_refused b r z w =
-      record {
-        refused = λ i q. (ap (λ (t : DPsiStepped). t.outcome) w ∙ ap O.Refused (number_is b ∙ q), ap (λ (t : DPsiStepped). run_of t.state b) w, refl);
-        accepted = λ q. absurd (z (number_is b ∙ q));
+        refused = λ i q. (ap (λ (t : DPsiStep). t.outcome) w ∙ ap O.Refused (told_number b _ e ∙ q), ap (λ (t : DPsiStep). run_of t.state b) w, refl);
+        accepted = λ q. absurd (refusal_some f (told_number b _ e ∙ q));
       }

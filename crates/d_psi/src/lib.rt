@@ -1,26 +1,31 @@
 // d_psi: the gradient of f with c × each transposed Jacobian product added, taken with t - P, t = F1 + y / c, and with F2.
 #![tactic(auto)]
 
+// The public calls take any run, also one that no start made: `wants` tests its sizes once, and the handlers ask for `Sound s.sizes`.
+// Beside the handlers of psi, which have other phases and other vectors: each is a few calls of what both share.
 ghost use Rattle.std.specs.Prelude.{◌≡◌, true, ◌≤◌, length};
 ghost use Rattle.std.specs.Float.{binary64};
 ghost use Rattle.matrix_operations.specs.Firsts.{firsts};
 ghost use Rattle.model.specs.Vectors.{plus_times};
 ghost use Rattle.model.specs.Refusals.{answer_refusal};
+ghost use Rattle.panoc_core.specs.Told.{told, answered};
 ghost use Rattle.panoc_core.specs.Values.{reply_of, kind_of};
 ghost use Rattle.factory.specs.declared.alm_factory.DPsiBoard.{DPsiBoard};
 ghost use Rattle.factory.specs.FactoryCalls.{DPsiAnswers};
 ghost use Rattle.factory.specs.FactoryBoard.{Sound, DPsiComes, DPsiTakes, run_of, gave, stepped, d_psi_kind, d_psi_f2_at, d_psi_g, d_psi_gw, d_psi_d, d_psi_ytw, d_psi_tdw, d_psi_five};
 
-use d_psi_result::hand_out;
 use factory::alm_factory::steps::{refuses, to, wants};
 use factory::alm_factory::terms::shifted_into;
 use factory::alm_factory::{
     DPsiAnswered, DPsiBoard, DPsiOutcome, DPsiPhase, DPsiRun, DPsiState, DPsiStepped, PsiQuestion,
 };
+use panoc_core::outcome::Refusal;
 use panoc_core::panoc_cache::Reply;
 use panoc_core::refusals::refusal;
+use panoc_plan::hand_out;
 
 // c × the product v is added to the gradient.
+#[tactic(auto, using(crate::proofs::DPsiLaws::product_added))]
 fn add_product(c: f64, v: &[f64], gradient: &mut [f64; 64], work: &mut [f64; 64], n: usize)
     requires { (n ≤ 64) × (length v.now ≡ n) }
     ensures { firsts n gradient.new ≡ plus_times binary64 c (firsts n gradient.old) v.now }
@@ -32,7 +37,7 @@ fn add_product(c: f64, v: &[f64], gradient: &mut [f64; 64], work: &mut [f64; 64]
 // The part of F1 is in the gradient: F2, or the end where there is none.
 fn ask_f2(s: DPsiState) -> DPsiStepped
     requires { Sound s.sizes }
-    ensures { (b : DPsiBoard) → DPsiComes s.sizes (d_psi_f2_at s b) result b }
+    ensures { (b : DPsiBoard) → DPsiComes s.sizes (d_psi_f2_at s b) (told result) b }
 {
     if s.sizes.n2 == 0 {
         to(s, DPsiPhase::Over, DPsiOutcome::Ended(()))
@@ -42,9 +47,10 @@ fn ask_f2(s: DPsiState) -> DPsiStepped
 }
 
 // The gradient of f at u is v.
+#[tactic(auto, using(factory::specs::FactoryLaws::sound_n))]
 fn on_gradient(s: DPsiState, v: &[f64], gradient: &mut [f64; 64]) -> DPsiStepped
     requires { (Sound s.sizes) × (s.phase ≡ DPsiPhase.Gradient) × (length v.now ≡ s.sizes.n) }
-    ensures { (b : DPsiBoard) → DPsiTakes s (d_psi_g gradient.old b) Reply.Vector v.now result (d_psi_g gradient.new b) }
+    ensures { (b : DPsiBoard) → DPsiTakes s (d_psi_g gradient.old b) Reply.Vector v.now (told result) (d_psi_g gradient.new b) }
 {
     vector_copies::take_into(v, gradient);
     if s.sizes.n1 == 0 {
@@ -55,6 +61,7 @@ fn on_gradient(s: DPsiState, v: &[f64], gradient: &mut [f64; 64]) -> DPsiStepped
 }
 
 // F1 at u is v. y is divided by the penalty, also where that is 0.
+#[tactic(auto, using(factory::specs::FactoryLaws::sound_n1))]
 fn on_f1(
     s: DPsiState,
     v: &[f64],
@@ -63,7 +70,7 @@ fn on_f1(
     work: &mut [f64; 64],
 ) -> DPsiStepped
     requires { (Sound s.sizes) × (s.phase ≡ DPsiPhase.F1) × (length v.now ≡ s.sizes.n1) }
-    ensures { (b : DPsiBoard) → DPsiTakes s (d_psi_ytw y.now t.old work.old b) Reply.Vector v.now result (d_psi_ytw y.now t.new work.new b) }
+    ensures { (b : DPsiBoard) → DPsiTakes s (d_psi_ytw y.now t.old work.old b) Reply.Vector v.now (told result) (d_psi_ytw y.now t.new work.new b) }
 {
     shifted_into(s.c, v, y, t, work);
     to(
@@ -74,6 +81,7 @@ fn on_f1(
 }
 
 // The projection of t is v.
+#[tactic(auto, using(factory::specs::FactoryLaws::sound_n1))]
 fn on_project_c(
     s: DPsiState,
     v: &[f64],
@@ -82,7 +90,7 @@ fn on_project_c(
     work: &mut [f64; 64],
 ) -> DPsiStepped
     requires { (Sound s.sizes) × (s.phase ≡ DPsiPhase.ProjectC) × (length v.now ≡ s.sizes.n1) }
-    ensures { (b : DPsiBoard) → DPsiTakes s (d_psi_tdw t.now d.old work.old b) Reply.Vector v.now result (d_psi_tdw t.now d.new work.new b) }
+    ensures { (b : DPsiBoard) → DPsiTakes s (d_psi_tdw t.now d.old work.old b) Reply.Vector v.now (told result) (d_psi_tdw t.now d.new work.new b) }
 {
     vector_copies::take_into(v, work);
     vector_differences::minus_into(t, work, d, s.sizes.n1);
@@ -90,33 +98,37 @@ fn on_project_c(
 }
 
 // The transposed Jacobian product of F1 is v.
+#[tactic(auto, using(factory::specs::FactoryLaws::sound_n))]
 fn on_jf1t(s: DPsiState, v: &[f64], gradient: &mut [f64; 64], work: &mut [f64; 64]) -> DPsiStepped
     requires { (Sound s.sizes) × (s.phase ≡ DPsiPhase.Jf1t) × (length v.now ≡ s.sizes.n) }
-    ensures { (b : DPsiBoard) → DPsiTakes s (d_psi_gw gradient.old work.old b) Reply.Vector v.now result (d_psi_gw gradient.new work.new b) }
+    ensures { (b : DPsiBoard) → DPsiTakes s (d_psi_gw gradient.old work.old b) Reply.Vector v.now (told result) (d_psi_gw gradient.new work.new b) }
 {
     add_product(s.c, v, gradient, work, s.sizes.n);
     ask_f2(s)
 }
 
 // F2 at u is v: its product is taken with it.
+#[tactic(auto, using(factory::specs::FactoryLaws::sound_n2))]
 fn on_f2(s: DPsiState, v: &[f64], d: &mut [f64; 64]) -> DPsiStepped
     requires { (Sound s.sizes) × (s.phase ≡ DPsiPhase.F2) × (length v.now ≡ s.sizes.n2) }
-    ensures { (b : DPsiBoard) → DPsiTakes s (d_psi_d d.old b) Reply.Vector v.now result (d_psi_d d.new b) }
+    ensures { (b : DPsiBoard) → DPsiTakes s (d_psi_d d.old b) Reply.Vector v.now (told result) (d_psi_d d.new b) }
 {
     vector_copies::take_into(v, d);
     to(s, DPsiPhase::Jf2t, DPsiOutcome::Asked(PsiQuestion::Jf2t))
 }
 
 // The transposed Jacobian product of F2 is v; the result stays in the gradient.
+#[tactic(auto, using(factory::specs::FactoryLaws::sound_n))]
 fn on_jf2t(s: DPsiState, v: &[f64], gradient: &mut [f64; 64], work: &mut [f64; 64]) -> DPsiStepped
     requires { (Sound s.sizes) × (s.phase ≡ DPsiPhase.Jf2t) × (length v.now ≡ s.sizes.n) }
-    ensures { (b : DPsiBoard) → DPsiTakes s (d_psi_gw gradient.old work.old b) Reply.Vector v.now result (d_psi_gw gradient.new work.new b) }
+    ensures { (b : DPsiBoard) → DPsiTakes s (d_psi_gw gradient.old work.old b) Reply.Vector v.now (told result) (d_psi_gw gradient.new work.new b) }
 {
     add_product(s.c, v, gradient, work, s.sizes.n);
     to(s, DPsiPhase::Over, DPsiOutcome::Ended(()))
 }
 
-// A vector that was asked for.
+// A vector that was asked for: each phase has a handler of its own, with the vectors that it needs.
+#[tactic(auto, using(factory::specs::FactoryRuns::vector_not_over))]
 fn on_vector(
     s: DPsiState,
     v: &[f64],
@@ -127,7 +139,7 @@ fn on_vector(
     work: &mut [f64; 64],
 ) -> DPsiStepped
     requires { answer_refusal (d_psi_kind s) (reply_of Reply.Vector) (length v.now) true ≡ 0 }
-    ensures { (b : DPsiBoard) → DPsiTakes s (d_psi_five y.now gradient.old t.old d.old work.old b) Reply.Vector v.now result (d_psi_five y.now gradient.new t.new d.new work.new b) }
+    ensures { (b : DPsiBoard) → DPsiTakes s (d_psi_five y.now gradient.old t.old d.old work.old b) Reply.Vector v.now (told result) (d_psi_five y.now gradient.new t.new d.new work.new b) }
 {
     match s.phase {
         DPsiPhase::Gradient => on_gradient(s, v, gradient),
@@ -136,11 +148,12 @@ fn on_vector(
         DPsiPhase::Jf1t => on_jf1t(s, v, gradient, work),
         DPsiPhase::F2 => on_f2(s, v, d),
         DPsiPhase::Jf2t => on_jf2t(s, v, gradient, work),
-        DPsiPhase::Over => refuses(s, 6),
+        DPsiPhase::Over => refuses(s, Refusal::Over),
     }
 }
 
 // An answer that nothing refuses. A result stays in the gradient.
+#[tactic(auto, using(crate::proofs::DPsiLaws::vector_accepted, crate::proofs::DPsiLaws::number_refused, crate::proofs::DPsiLaws::yes_refused, crate::proofs::DPsiLaws::no_refused))]
 fn step(
     s: DPsiState,
     a: Reply,
@@ -152,12 +165,12 @@ fn step(
     work: &mut [f64; 64],
 ) -> DPsiStepped
     requires { answer_refusal (d_psi_kind s) (reply_of a) (length v.now) true ≡ 0 }
-    ensures { (b : DPsiBoard) → DPsiTakes s (d_psi_five y.now gradient.old t.old d.old work.old b) a v.now result (d_psi_five y.now gradient.new t.new d.new work.new b) }
+    ensures { (b : DPsiBoard) → DPsiTakes s (d_psi_five y.now gradient.old t.old d.old work.old b) a v.now (told result) (d_psi_five y.now gradient.new t.new d.new work.new b) }
 {
     match a {
         Reply::Vector => on_vector(s, v, y, gradient, t, d, work),
         Reply::Failure(code) => to(s, DPsiPhase::Over, DPsiOutcome::Failed(code)),
-        Reply::Number(_) | Reply::Yes | Reply::No => refuses(s, 7),
+        Reply::Number(_) | Reply::Yes | Reply::No => refuses(s, Refusal::Kind),
     }
 }
 
@@ -173,22 +186,20 @@ pub fn answer_in_place(
     d: &mut [f64; 64],
     work: &mut [f64; 64],
 ) -> DPsiStepped
-    ensures { (b : DPsiBoard) → DPsiAnswers (run_of s (d_psi_five y.now gradient.old t.old d.old work.old b)) a v.now res.old res.new (gave result (d_psi_five y.now gradient.new t.new d.new work.new b)) }
+    ensures { (b : DPsiBoard) → DPsiAnswers (run_of s (d_psi_five y.now gradient.old t.old d.old work.old b)) a v.now res.old res.new (gave (told result) (d_psi_five y.now gradient.new t.new d.new work.new b)) }
 {
     let fits = res.len() == s.sizes.n;
-    let number = refusal(wants(s), a, v.len(), fits);
-    if number == 0 {
-        let r = step(s, a, v, y, gradient, t, d, work);
-        hand_out(r.outcome, gradient, res);
-        r
-    } else {
-        refuses(s, number)
+    if let Some(refusal) = refusal(wants(s), a, v.len(), fits) {
+        return refuses(s, refusal);
     }
+    let r = step(s, a, v, y, gradient, t, d, work);
+    hand_out(r.outcome, gradient, res);
+    r
 }
 
 // An answer to the question of a run by value. Beside that of psi, which is lent no result.
 pub fn answer(run: DPsiRun, a: Reply, v: &[f64], res: &mut [f64]) -> DPsiAnswered
-    ensures { DPsiAnswers run a v.now res.old res.new result }
+    ensures { DPsiAnswers run a v.now res.old res.new (answered result) }
 {
     let mut gradient = run.board.gradient;
     let mut t = run.board.t;

@@ -1,11 +1,6 @@
-use Rattle.std.proofs.Common.{arith}
-use Rattle.factory.specs.FactoryLaws.{sound_n1}
 use Rattle.d_psi.proofs.DPsiLaws.{f1_goes}
 use Rattle.factory.specs.FactoryBoard.{d_psi_ytw}
 use Rattle.d_psi.proofs.on_f1.Goals as goal
-
-pub shifted_into-requires : goal.shifted_into-requires
-shifted_into-requires c = omega (arith, sound_n1 c.args.s.sizes c.requires.0, c.requires.2)
 
 pub returns : goal.returns
 returns c = λ b. f1_goes c.args.s (d_psi_ytw c.args.y.now c.args.t.now c.args.work.now b) c.requires.0 _ _ _ _ c.requires.1 c.requires.2 c.shifted_into.ensures c.to.ensures

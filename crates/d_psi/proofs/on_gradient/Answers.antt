@@ -1,11 +1,6 @@
-use Rattle.std.proofs.Common.{arith}
-use Rattle.factory.specs.FactoryLaws.{sound_n}
 use Rattle.d_psi.proofs.DPsiLaws.{gradient_goes, gradient_asks}
 use Rattle.factory.specs.FactoryBoard.{d_psi_g}
 use Rattle.d_psi.proofs.on_gradient.Goals as goal
-
-pub take_into-requires : goal.take_into-requires
-take_into-requires c = omega (arith, sound_n c.args.s.sizes c.requires.0, c.requires.2)
 
 pub returns-then-s-eq0 : goal.returns-then-s-eq0
 returns-then-s-eq0 c = λ b. gradient_goes c.args.s (d_psi_g c.args.gradient.now b) c.requires.0 _ _ _ c.requires.1 c.requires.2 c.take_into.ensures c.if-s-eq0.true c.ask_f2.ensures

@@ -1,10 +1,6 @@
-use Rattle.factory.specs.FactoryLaws.{sound_n}
 use Rattle.d_psi.proofs.DPsiLaws.{jf2_gives}
 use Rattle.factory.specs.FactoryBoard.{d_psi_gw}
 use Rattle.d_psi.proofs.on_jf2t.Goals as goal
-
-pub add_product-requires : goal.add_product-requires
-add_product-requires c = (sound_n c.args.s.sizes c.requires.0, c.requires.2)
 
 pub returns : goal.returns
 returns c = λ b. jf2_gives c.args.s (d_psi_gw c.args.gradient.now c.args.work.now b) c.requires.0 _ _ _ _ c.requires.1 c.add_product.ensures c.to.ensures

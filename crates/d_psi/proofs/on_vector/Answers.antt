@@ -1,6 +1,6 @@
 use Rattle.factory.specs.declared.alm_factory.DPsiPhase.TheVariants as P
 use Rattle.std.proofs.Common.{refl}
-use Rattle.factory.specs.FactoryRuns.{vector_at, vector_not_over}
+use Rattle.factory.specs.FactoryRuns.{vector_at}
 use Rattle.factory.specs.FactoryBoard.{d_psi_five, d_psi_kind_at}
 use Rattle.d_psi.proofs.on_vector.Goals as goal
 
@@ -39,6 +39,3 @@ returns-in-F2 c = λ b. c.on_f2.ensures (d_psi_five c.args.y.now c.args.gradient
 
 pub returns-in-Jf2t : goal.returns-in-Jf2t
 returns-in-Jf2t c = λ b. c.on_jf2t.ensures (d_psi_five c.args.y.now c.args.gradient.now c.args.t.now c.args.d.now c.args.work.now b)
-
-pub returns-in-Over : goal.returns-in-Over
-returns-in-Over c = absurd (vector_not_over d_psi_kind_at c.args.s _ c.requires P.Over c.in-Over.is refl)
