@@ -1,23 +1,10 @@
-use Rattle.std.proofs.Common.{arith, refl, sym, ◌∙◌, ⊎_elim}
+use Rattle.std.proofs.Common.{refl, sym, ◌∙◌, ⊎_elim}
 use Rattle.matrix_operations.specs.Firsts.{firsts}
 use Rattle.factory.specs.declared.alm_factory.DPsiPhase.TheVariants as P
 use Rattle.factory.specs.FactoryRest.{d_psi_resume}
 use Rattle.factory.specs.FactoryBoard.{d_psi_utd}
-use Rattle.factory.specs.FactoryLaws.{sound_n, sound_n1, sound_n2}
 use Rattle.factory.specs.FactoryRuns.{points_at, points_over, points_wild}
 use Rattle.d_psi_points.proofs.points_in_place.Goals as goal
-
-pub place-requires : goal.place-requires
-place-requires c = (sound_n c.args.s.sizes (sym c.sound.ensures ∙ c.if-not-sound.false), omega arith)
-
-pub place-requires-in-ProjectC : goal.place-requires-in-ProjectC
-place-requires-in-ProjectC c = (omega (arith, sound_n1 c.args.s.sizes (sym c.sound.ensures ∙ c.if-not-sound.false)), omega arith)
-
-pub place-requires-in-Jf1t : goal.place-requires-in-Jf1t
-place-requires-in-Jf1t c = (sound_n c.args.s.sizes (sym c.sound.ensures ∙ c.if-not-sound.false), omega (arith, sound_n1 c.args.s.sizes (sym c.sound.ensures ∙ c.if-not-sound.false)))
-
-pub place-requires-in-Jf2t : goal.place-requires-in-Jf2t
-place-requires-in-Jf2t c = (sound_n c.args.s.sizes (sym c.sound.ensures ∙ c.if-not-sound.false), omega (arith, sound_n2 c.args.s.sizes (sym c.sound.ensures ∙ c.if-not-sound.false)))
 
 pub returns-in-Gradient : goal.returns-in-Gradient
 unfolding d_psi_resume firsts

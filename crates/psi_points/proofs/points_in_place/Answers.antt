@@ -1,17 +1,10 @@
-use Rattle.std.proofs.Common.{arith, refl, sym, ◌∙◌, ⊎_elim}
+use Rattle.std.proofs.Common.{refl, sym, ◌∙◌, ⊎_elim}
 use Rattle.matrix_operations.specs.Firsts.{firsts}
 use Rattle.factory.specs.declared.alm_factory.PsiPhase.TheVariants as P
 use Rattle.factory.specs.FactoryRest.{psi_resume}
 use Rattle.factory.specs.FactoryBoard.{psi_ut}
-use Rattle.factory.specs.FactoryLaws.{sound_n, sound_n1}
 use Rattle.factory.specs.FactoryRuns.{points_at, points_over, points_wild}
 use Rattle.psi_points.proofs.points_in_place.Goals as goal
-
-pub place-requires : goal.place-requires
-place-requires c = (sound_n c.args.s.sizes (sym c.sound.ensures ∙ c.if-not-sound.false), omega arith)
-
-pub place-requires-in-ProjectC : goal.place-requires-in-ProjectC
-place-requires-in-ProjectC c = (omega (arith, sound_n1 c.args.s.sizes (sym c.sound.ensures ∙ c.if-not-sound.false)), omega arith)
 
 pub returns-in-Cost : goal.returns-in-Cost
 unfolding psi_resume firsts
