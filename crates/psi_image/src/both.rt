@@ -1,8 +1,10 @@
 // What the lent numbers of psi and of d_psi have alike: w and k.
 ghost use Rattle.std.specs.Prelude.{◌≡◌, get_or};
-ghost use Rattle.psi_image.specs.PsiImage.{sizes_of, noted, Told};
+ghost use Rattle.panoc_core.specs.Told.{numbered};
+ghost use Rattle.psi_image.specs.PsiImage.{sizes_of, noted, Tells};
 
 use factory::alm_factory::{PsiQuestion, Sizes, State};
+use image::told;
 use panoc_core::outcome::Outcome;
 use psi_kinds::{Numbered, question_number};
 
@@ -33,26 +35,26 @@ fn note(number: u32, w: &mut [u32; 2])
     *w = [w[0], number];
 }
 
-// What a call has told, but for the value of an end, into the lent numbers; its kind is the result.
+// What a call has told, but for the value of an end, into the lent numbers: C reads 0 at an end. Its kind is the result.
 pub fn tell<E: Copy>(o: Outcome<PsiQuestion, E>, w: &mut [u32; 2]) -> u32
-    ensures { Told o result w.old w.new }
+    ensures { Tells (numbered o) result w.old w.new }
 {
     match o {
         Outcome::Asked(q) => {
             note(question_number(q), w);
-            0
+            told::ASKED
         }
         Outcome::Ended(_) => {
             note(0, w);
-            1
+            told::ENDED
         }
-        Outcome::Refused(number) => {
-            note(number, w);
-            2
+        Outcome::Refused(refusal) => {
+            note(refusal.number(), w);
+            told::REFUSED
         }
         Outcome::Failed(code) => {
             note(code, w);
-            3
+            told::FAILED
         }
     }
 }

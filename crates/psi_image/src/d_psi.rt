@@ -1,5 +1,6 @@
 // The small part of a run of d_psi in lent arrays.
 ghost use Rattle.std.specs.Prelude.{◌≡◌};
+ghost use Rattle.panoc_core.specs.Told.{numbered};
 ghost use Rattle.psi_image.specs.PsiImage.{d_psi_of, DPsiTells};
 
 use crate::both::{keep, sizes_of, tell};
@@ -28,7 +29,7 @@ pub fn keep_d_psi(s: DPsiState, w: &mut [u32; 2], k: &mut [usize; 3], f: &mut [f
 
 // What a call has told, into the lent numbers; its kind is the result.
 pub fn tell_d_psi(o: DPsiOutcome, w: &mut [u32; 2]) -> u32
-    ensures { DPsiTells o result w.old w.new }
+    ensures { DPsiTells (numbered o) result w.old w.new }
 {
     tell(o, w)
 }

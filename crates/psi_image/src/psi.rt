@@ -1,5 +1,6 @@
 // The small part of a run of psi in lent arrays.
 ghost use Rattle.std.specs.Prelude.{◌≡◌};
+ghost use Rattle.panoc_core.specs.Told.{numbered};
 ghost use Rattle.psi_image.specs.PsiImage.{psi_of, PsiTells};
 
 use crate::both::{keep, sizes_of, tell};
@@ -28,7 +29,7 @@ pub fn keep_psi(s: PsiState, w: &mut [u32; 2], k: &mut [usize; 3], f: &mut [f64;
 
 // What a call has told, into the lent numbers; its kind is the result.
 pub fn tell_psi(o: PsiOutcome, w: &mut [u32; 2], f: &mut [f64; 3]) -> u32
-    ensures { PsiTells o result w.old f.old w.new f.new }
+    ensures { PsiTells (numbered o) result w.old f.old w.new f.new }
 {
     if let PsiOutcome::Ended(value) = o {
         *f = [f[0], f[1], value];
