@@ -9,5 +9,5 @@ use Rattle.factory.specs.FactoryBoard.{run_of}
 use Rattle.factory.specs.FactoryCalls.{Points}
 use Rattle.factory.specs.FactoryRest.{psi_rest}
 
-pub psi_points : (s z : PsiState) (b : PsiBoard) (xs xs' ys ys' : List Float) (m : ℕ) → s ≡ z → Points (psi_rest (run_of s b)) xs xs' ys ys' m → Points (psi_rest (run_of z b)) xs xs' ys ys' m
-psi_points s z b xs xs' ys ys' m e g = subst (λ (q : PsiState). Points (psi_rest (run_of q b)) xs xs' ys ys' m) e g
+pub psi_points : (s z : PsiState) (b : PsiBoard) (xs xs' ys ys' : List Float) (m k : ℕ) → s ≡ z → k ≡ m → Points (psi_rest (run_of s b)) xs xs' ys ys' m → Points (psi_rest (run_of z b)) xs xs' ys ys' k
+psi_points s z b xs xs' ys ys' m k e h g = rw h (subst (λ (q : PsiState). Points (psi_rest (run_of q b)) xs xs' ys ys' m) e g)
