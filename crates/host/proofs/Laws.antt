@@ -38,4 +38,6 @@ module _ (kind : ℕ) (x : Float) (code : ℕ) (v us : List Float) (w k : List �
   pub malformed_as : (w' : List ℕ) (waits : Bool) (m r : ℕ) → 4 < kind → waits ≡ waiting (kind_of wd) → m ≡ cond waits 7 6 → (w' ≡ noted m w) × (r ≡ 2)
       → Exported kind x code v us us (run_of s b) (gave (told_of r w' k f) b)
   malformed_as w' waits m r h q n o =
-      rw (o.0, o.1) (record { malformed = λ i. (ap Refused (n ∙ strange_is waits q), refl, refl); answered = λ i. absurd (omega arith) })
+      subst (λ (z : List ℕ). Exported kind x code v us us (run_of s b) (gave (told_of r z k f) b)) (sym o.0)
+      (subst (λ (z : ℕ). Exported kind x code v us us (run_of s b) (gave (told_of z (noted m w) k f) b)) (sym o.1)
+      (record { malformed = λ i. (ap Refused (n ∙ strange_is waits q), refl, refl); answered = λ i. absurd (omega arith) }))

@@ -40,4 +40,6 @@ module _ (kind : ℕ) (x : Float) (code : ℕ) (v us xs : List Float) (w w' k : 
   pub malformed_as : (waits : Bool) (m r : ℕ) → 4 < kind → waits ≡ waiting (kind_of wd) → m ≡ cond waits 7 6 → (w' ≡ noted m w) × (r ≡ 2)
       → Exported kind x code v us us xs xs (run_of s b) (gave (told_of r w' k f lw lk lf) b)
   malformed_as waits m r h q n o =
-      rw (o.0, o.1) (record { malformed = λ i. (ap Refused (n ∙ strange_is waits q), refl, refl, refl); answered = λ i. absurd (omega arith) })
+      subst (λ (z : List ℕ). Exported kind x code v us us xs xs (run_of s b) (gave (told_of r z k f lw lk lf) b)) (sym o.0)
+      (subst (λ (z : ℕ). Exported kind x code v us us xs xs (run_of s b) (gave (told_of z (noted m w) k f lw lk lf) b)) (sym o.1)
+      (record { malformed = λ i. (ap Refused (n ∙ strange_is waits q), refl, refl, refl); answered = λ i. absurd (omega arith) }))
