@@ -1,4 +1,5 @@
 // The answer to a run of the multiplier loop, by value.
+ghost use Rattle.panoc_core.specs.Told.{answered};
 ghost use Rattle.alm_calls.specs.LoopCalls.{Answers};
 
 use alm_core::alm_cache::{AlmAnswered, AlmRun};
@@ -7,7 +8,7 @@ use panoc_core::panoc_cache::Reply;
 
 // An answer to the question of a run by value.
 pub fn answer(mut run: AlmRun, a: Reply, v: &[f64], plan: &mut [f64], xi: &mut [f64]) -> AlmAnswered
-    ensures { Answers run a v.now plan.old plan.new xi.old xi.new result }
+    ensures { Answers run a v.now plan.old plan.new xi.old xi.new (answered result) }
 {
     let r = answer_in_place(
         run.alm,
@@ -28,7 +29,7 @@ pub fn answer(mut run: AlmRun, a: Reply, v: &[f64], plan: &mut [f64], xi: &mut [
         &mut run.y_plus,
         &mut run.w_alm_aux,
     );
-    run.alm = r.alm;
+    run.alm = r.state;
     AlmAnswered {
         outcome: r.outcome,
         run,

@@ -101,6 +101,10 @@ four u x y z b = record { inner = Inner.set_u u (Inner.set_best x b.inner); y = 
 abbrev pub five : List Float → List Float → List Float → List Float → List Float → LoopBoard → LoopBoard
 five u p x y z b = record { inner = Inner.set_u u (Inner.set_plus p (Inner.set_best x b.inner)); y = y; y_plus = z; w = b.w }
 
+-- all vectors
+abbrev pub twelve : List Float → List Float → List Float → List Float → List Float → List Float → List Float → List Float → List Float → List Float → List Float → List Float → LoopBoard
+twelve u c g p t h r d x y z w = record { inner = Inner.nine u c g p t h r d x; y = y; y_plus = z; w = w }
+
 -- ---- what an iteration has found when F2 is known too
 abbrev pub found_all : Alm → LoopBoard → L.Found
 found_all s b = L.with_f2 s.numbers.f2_norm_plus (found_y s b)

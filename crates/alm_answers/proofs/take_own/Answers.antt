@@ -28,4 +28,4 @@ pub returns-in-No : goal.returns-in-No
 returns-in-No c = λ b. took_decision c.args.s (six c.args.u.now c.args.scratch.now c.args.best.now c.args.y.now c.args.plus.now c.args.w.now b) _ _ _ _ false c.in-No.is (c.on_time-in-No.ensures (six c.args.u.now c.args.scratch.now c.args.best.now c.args.y.now c.args.plus.now c.args.w.now b))
 
 pub returns-in-Failure : goal.returns-in-Failure
-returns-in-Failure c = λ b. took_failure c.args.s (six c.args.u.now c.args.scratch.now c.args.best.now c.args.y.now c.args.plus.now c.args.w.now b) _ _ _ _ c.in-Failure.is (refusal_of c.args.s _ c.in-Failure.is c.requires.0) c.fails.ensures
+returns-in-Failure c = λ b. took_failure c.args.s (six c.args.u.now c.args.scratch.now c.args.best.now c.args.y.now c.args.plus.now c.args.w.now b) _ _ _ _ c.in-Failure.is (refusal_of c.args.s _ c.in-Failure.is c.requires.0) c.to.ensures

@@ -6,17 +6,11 @@ use Rattle.alm_weigh.proofs.weigh.Goals as goal
 pub copy_into-requires : goal.copy_into-requires
 copy_into-requires c = sized_n c.args.s c.requires.0
 
-pub counted-t-requires : goal.counted-t-requires
-counted-t-requires c = c.requires.1
-
 pub conclude-requires : goal.conclude-requires
 conclude-requires c = sized_same _ _ c.counted-t.ensures c.requires.0
 
 pub copy_into-requires-else-is_exit_criterion_satisfied : goal.copy_into-requires-else-is_exit_criterion_satisfied
 copy_into-requires-else-is_exit_criterion_satisfied c = omega (arith, sized_n1 c.args.s c.requires.0)
-
-pub counted-t-requires-else-is_exit_criterion_satisfied : goal.counted-t-requires-else-is_exit_criterion_satisfied
-counted-t-requires-else-is_exit_criterion_satisfied c = c.requires.1
 
 pub next_iteration-requires : goal.next_iteration-requires
 next_iteration-requires c = closing_same _ _ c.counted-t-else-is_exit_criterion_satisfied.ensures (counted_closing c.args.s _ _ c.requires)
