@@ -17,35 +17,27 @@ use Rattle.model.proofs.Starts.{start_inner_ends}
 use Rattle.model.proofs.EverySolve.{solve_traced}
 use Rattle.panoc_core.specs.declared.panoc_cache.Settings.{Settings}
 use Rattle.panoc_core.specs.declared.panoc_cache.SolverStatus.{SolverStatus}
+use Rattle.panoc_core.specs.Told as O
 use Rattle.panoc_core.specs.Told.{Ended, Refused}
 use Rattle.panoc_core.specs.declared.panoc_cache.Run.{Run}
-use Rattle.panoc_core.specs.Values.{settings_of, said, exit_status_of, Gave, Step}
+use Rattle.panoc_core.specs.Values.{settings_of, said, question_of, end_said, exit_status_of, Gave, Step}
 use Rattle.panoc_core.specs.Board.{Board, run_of, gave, Begins}
 use Rattle.panoc_core.specs.Calls.{Starts, asking}
-use Rattle.claims.specs.History.{Call, History}
+use Rattle.claims.specs.History.{number_of, Call, History}
 use Rattle.claims.specs.Trace.{refusal, leads_to, weighed, left}
 use Rattle.claims.specs.Claim.{Over, scores}
-use Rattle.claims.specs.Lawful.{refused_by, Gives, nothing, back, Lawful}
-use Rattle.claims.proofs.Lawful.{gives_as, begins}
+use Rattle.claims.specs.Lawful.{Gives, nothing, back, Lawful}
+use Rattle.claims.proofs.Lawful.{gives_as, begins, numbered}
 use Rattle.claims.proofs.Left.{scores_right, right_left, within_left}
 use Rattle.claims.specs.Follow.{After, Back}
 use Rattle.claims.proofs.Follow.{no_run, follow, follows, each_each, each_back}
 use Rattle.claims.proofs.Chosen.{plan_is, is_converged}
-use Rattle.claims.specs.Inner.{number_of, inner_runs, solve_of, trace_of, InnerHands, InnerClaim}
+use Rattle.claims.specs.Inner.{inner_runs, solve_of, trace_of, InnerHands, InnerClaim}
 
 -- ---- the contract of the calls, in the shared terms
 
-numbered : (q : Solve) → inner_runs.number (said q) ≡ refused_by q
-unfolding said refused_by
-numbered (ask q k continue) = refl
-numbered (score half norm p) = numbered p
-numbered (begin p) = numbered p
-numbered (stop (handed h)) = refl
-numbered (stop (refused m)) = refl
-numbered (stop (failed c)) = refl
-
 gives : (s : Settings) (q : Solve) → Gives inner_runs s q
-unfolding said lent_after lent_at end_of
+unfolding O.said lent_after lent_at end_of
 gives s (ask q k continue) = nothing refl (λ was. refl)
 gives s (score half norm p) = gives_as inner_runs s refl refl (λ was. refl) (gives s p)
 gives s (begin p) = gives_as inner_runs s refl refl (λ was. refl) (gives s p)
@@ -54,12 +46,12 @@ gives s (stop (refused m)) = nothing refl (λ was. refl)
 gives s (stop (failed c)) = nothing refl (λ was. refl)
 
 lawful : Lawful inner_runs
-unfolding refusal leads_to said
+unfolding refusal leads_to O.said
 lawful =
     record {
       refuses = λ r c meets m e. meets.refused m e;
       accepts = λ r c meets e. let to = meets.accepted e in record { settings = to.settings; outcome = to.outcome; process = to.process; wrote = to.wrote };
-      numbered = numbered;
+      numbered = numbered question_of end_said;
       gives = gives;
       hands = λ h. refl;
     }
@@ -68,7 +60,7 @@ lawful =
 
 -- the plan of the model, on what the code hands back
 hands_is : (s : Settings) (es : List Scored) (h : Handed) (e : SolverStatus) (u : List Float) → SolvePlan (settings_of s) es h → said (stop (handed h)) ≡ Ended e → u ≡ h.plan → InnerHands s es e u
-unfolding said
+unfolding O.said
 hands_is s es h e u p o w = subst (λ (v : List Float). InnerHands s es e v) (sym w) (subst (λ (d : SolverStatus). InnerHands s es d h.plan) same of)
   where
     of : InnerHands s es (record { exit_status = exit_status_of h.status; iterations = record { 0 = h.iterations }; norm_fpr = h.norm; cost_value = h.cost }) h.plan
@@ -122,11 +114,11 @@ module _ (s : Settings) (u : List Float) (a : Gave) (starts : Starts s u a) (acc
 
 -- The same from an accepted start in place, whose vectors are those of the board b.
 pub inner_claim_in_place : (s : Settings) (u : List Float) (a : Step) (b : Board) → Begins s u a b → number_of a.outcome ≡ 0
-    → {cs : List (Call inner_runs)} {t : Run} → History inner_runs (run_of a.solve b) cs t → InnerClaim s u (run_of a.solve b) cs t
+    → {cs : List (Call inner_runs)} {t : Run} → History inner_runs (run_of a.state b) cs t → InnerClaim s u (run_of a.state b) cs t
 inner_claim_in_place s u a b starts accepts h =
     inner_claim s u (gave a b) (record { settings = starts.settings; outcome = starts.outcome; process = starts.process }) accepts h
 
 -- A start that the table refuses: its number, and no run.
 pub inner_no_run : (s : Settings) (u : List Float) (a : Gave) → Starts s u a → (m : ℕ) → inner_refusal (settings_of s) (length u) ≡ suc m → (a.outcome ≡ Refused (suc m)) × Over inner_runs a.run
-unfolding start_inner said
+unfolding start_inner O.said
 inner_no_run s u a starts m e = no_run inner_runs lawful _ m (solve_of s u) a.outcome a.run starts.outcome starts.process e

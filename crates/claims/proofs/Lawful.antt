@@ -3,11 +3,22 @@ use Prim.Native.Nat.{ℕ, zero, suc}
 use Rattle.std.proofs.Math.Path.{◌≡◌, refl, ap}
 use Rattle.std.proofs.Common.{sym, ◌∙◌, true≢false, arith}
 use Rattle.std.proofs.Math.Bool.{false}
-use Rattle.model.specs.Process.{Process, refused, stop}
+use Rattle.model.specs.Process.{Process, handed, refused, failed, ask, score, begin, stop}
+use Rattle.panoc_core.specs.Told.{said}
 use Rattle.model.specs.Refusals.{or_refused}
 use Rattle.model.specs.Carry.{end_of}
-use Rattle.claims.specs.History.{Runs}
+use Rattle.claims.specs.History.{number_of, Runs}
 use Rattle.claims.specs.Lawful.{Gives, Lawful, back, nothing, refused_by}
+
+-- the number of a refusal is told as it is
+pub numbered : {Q A H E : Type 0} (asks : Q → A) (tells : H → E) (q : Process Q H) → number_of (said asks tells q) ≡ refused_by q
+unfolding said refused_by
+numbered asks tells (ask q k continue) = refl
+numbered asks tells (score half norm p) = numbered asks tells p
+numbered asks tells (begin p) = numbered asks tells p
+numbered asks tells (stop (handed h)) = refl
+numbered asks tells (stop (refused m)) = refl
+numbered asks tells (stop (failed c)) = refl
 
 -- so does one that has come to the same past other marks
 pub gives_as : {Q H : Type 0} (k : Runs Q H) (s : k.Settings) {q q' : Process Q H} → end_of q' ≡ end_of q → k.said q' ≡ k.said q → ((was : k.Lent) → k.written s q' was ≡ k.written s q was) → Gives k s q → Gives k s q'

@@ -20,17 +20,18 @@ use Rattle.model.proofs.Starts.{start_loop_ends}
 use Rattle.model.proofs.EveryLoop.{loop_traced, loop_counted}
 use Rattle.alm_core.specs.declared.alm_cache.AlmSettings.{AlmSettings}
 use Rattle.alm_core.specs.declared.alm_cache.AlmOptimizerStatus.{AlmOptimizerStatus}
+use Rattle.panoc_core.specs.Told as O
 use Rattle.panoc_core.specs.Told.{Ended, Refused}
 use Rattle.alm_core.specs.declared.alm_cache.AlmRun.{AlmRun}
-use Rattle.alm_core.specs.Values.{settings_of, said, LoopGave, LoopStep}
+use Rattle.alm_core.specs.Values.{settings_of, said, loop_question, end_said, LoopGave, LoopStep}
 use Rattle.alm_core.specs.Rest.{LoopBoard}
 use Rattle.alm_calls.specs.LoopCalls.{run_of, gave, Starts, Begins, asking}
-use Rattle.claims.specs.History.{Call, History}
+use Rattle.claims.specs.History.{number_of, Call, History}
 use Rattle.claims.specs.Trace.{refusal, leads_to, left, Event}
 use Rattle.claims.specs.Claim.{Over, scores, tally}
-use Rattle.claims.specs.Loop.{Places, number_of, loop_of, LoopHands, LoopClaim, loop_runs, trace_of}
-use Rattle.claims.specs.Lawful.{refused_by, Gives, nothing, back, Lawful}
-use Rattle.claims.proofs.Lawful.{gives_as, begins}
+use Rattle.claims.specs.Loop.{Places, loop_of, LoopHands, LoopClaim, loop_runs, trace_of}
+use Rattle.claims.specs.Lawful.{Gives, nothing, back, Lawful}
+use Rattle.claims.proofs.Lawful.{gives_as, begins, numbered}
 use Rattle.claims.proofs.Left.{scores_right, right_left}
 use Rattle.claims.specs.Follow.{After, Back}
 use Rattle.claims.proofs.Follow.{no_run, follow, follows, each_both, each_back}
@@ -39,17 +40,8 @@ use Rattle.claims.specs.LoopProof.{status_of}
 
 -- ---- outcomes
 
-numbered : (q : M.Loop) → number_of (said q) ≡ refused_by q
-unfolding said refused_by
-numbered (ask q k continue) = refl
-numbered (score half norm p) = numbered p
-numbered (begin p) = numbered p
-numbered (stop (handed h)) = refl
-numbered (stop (refused m)) = refl
-numbered (stop (failed c)) = refl
-
 said_status : (h : LoopHanded) (e : AlmOptimizerStatus) → said (stop (handed h)) ≡ Ended e → status_of h ≡ e
-unfolding said
+unfolding O.said
 said_status h e o = cc
 
 -- the plan and the counts of the model, on what the code hands back
@@ -83,7 +75,7 @@ beyond : (m : ℕ) → Among 10 18 m → 9 ≤ m
 beyond m z = omega (arith, z.0)
 
 gives : (s : AlmSettings) (q : M.Loop) → Gives loop_runs s q
-unfolding said lent_after lent_at end_of
+unfolding O.said lent_after lent_at end_of
 gives s (ask q k continue) = nothing refl (λ was. refl)
 gives s (score half norm p) = gives_as loop_runs s refl refl (λ was. refl) (gives s p)
 gives s (begin p) = gives_as loop_runs s refl refl (λ was. refl) (gives s p)
@@ -95,12 +87,12 @@ places_is : {u u' xi xi' : List Float} → u ≡ u' → xi ≡ xi' → ◌≡◌
 places_is a b = cc
 
 lawful : Lawful loop_runs
-unfolding refusal leads_to said
+unfolding refusal leads_to O.said
 lawful =
     record {
       refuses = λ r c meets m e. let no = meets.refused m e in (no.0, no.1, places_is no.2 no.3);
       accepts = λ r c meets e. let to = meets.accepted e in record { settings = to.settings; outcome = to.outcome; process = to.process; wrote = places_is to.plan to.xi };
-      numbered = numbered;
+      numbered = numbered loop_question end_said;
       gives = gives;
       hands = λ h. refl;
     }
@@ -147,11 +139,11 @@ module _ (s : AlmSettings) (u xi : List Float) (a : LoopGave) (starts : Starts s
 
 -- The same from an accepted start in place, whose vectors are those of the board b.
 pub loop_claim_in_place : (s : AlmSettings) (u xi : List Float) (a : LoopStep) (b : LoopBoard) → Begins s u xi a b → number_of a.outcome ≡ 0
-    → {cs : List (Call loop_runs)} {t : AlmRun} → History loop_runs (run_of a.alm b) cs t → LoopClaim s u xi (run_of a.alm b) cs t
+    → {cs : List (Call loop_runs)} {t : AlmRun} → History loop_runs (run_of a.state b) cs t → LoopClaim s u xi (run_of a.state b) cs t
 loop_claim_in_place s u xi a b starts accepts h =
     loop_claim s u xi (gave a b) (record { settings = starts.settings; outcome = starts.outcome; process = starts.process }) accepts h
 
 -- A start that the table refuses: its number, and no run.
 pub loop_no_run : (s : AlmSettings) (u xi : List Float) (a : LoopGave) → Starts s u xi a → (m : ℕ) → loop_refusal binary64 (settings_of s) (length u) xi ≡ suc m → (a.outcome ≡ Refused (suc m)) × Over loop_runs a.run
-unfolding start_loop said
+unfolding start_loop O.said
 loop_no_run s u xi a starts m e = no_run loop_runs lawful _ m (loop_of s u xi) a.outcome a.run starts.outcome starts.process e

@@ -1,7 +1,21 @@
 -- A list of calls, each on the run that the call before it returned: by the public contracts alone, for any kind of run. The calls by value, in place and for C keep one contract, so each call is any of these. Definitions only.
-use Rattle.std.specs.Prelude.{ℕ, Bool, List, [], ◌∷◌, Float}
+use Rattle.std.specs.Prelude.{ℕ, Bool, true, false, List, [], ◌∷◌, Float}
 use Rattle.model.specs.Process.{Process}
+use Rattle.panoc_core.specs.Told.{Told, Asked, Ended, Refused, Failed}
 use Rattle.panoc_core.specs.declared.panoc_cache.Reply.{Reply}
+
+-- an outcome: whether something is handed back, and the number of a refusal
+abbrev pub hands_back : {Q E : Type 0} → Told Q E → Bool
+hands_back (Asked q) = false
+hands_back (Ended e) = true
+hands_back (Refused m) = false
+hands_back (Failed c) = false
+
+abbrev pub number_of : {Q E : Type 0} → Told Q E → ℕ
+number_of (Asked q) = 0
+number_of (Ended e) = 0
+number_of (Refused m) = m
+number_of (Failed c) = 0
 
 -- A kind of run: the contract of its answer, and what the contract speaks of.
 pub record Runs (Q H : Type 0) : Type 1 where

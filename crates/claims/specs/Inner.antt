@@ -1,5 +1,5 @@
 -- Demand 3 for an inner solve used alone. Definitions only.
-use Rattle.std.specs.Prelude.{ℕ, ◌+◌, ◌*◌, ◌≤◌, ◌≡◌, Bool, true, false, List, ◌∷◌, eqb, Float, length}
+use Rattle.std.specs.Prelude.{◌+◌, ◌*◌, ◌≤◌, ◌≡◌, true, List, ◌∷◌, eqb, Float, length}
 use Rattle.std.proofs.Math.Option.{some}
 use Rattle.std.specs.Float.{binary64}
 use Rattle.std.specs.Float.Ieee.{lt}
@@ -13,27 +13,14 @@ use Rattle.model.specs.Least.{Scored}
 use Rattle.panoc_core.specs.declared.panoc_cache.Settings.{Settings}
 use Rattle.panoc_core.specs.declared.panoc_cache.ExitStatus.TheVariants.{Converged}
 use Rattle.panoc_core.specs.declared.panoc_cache.SolverStatus.{SolverStatus}
-use Rattle.panoc_core.specs.Told.{Asked, Ended, Refused, Failed}
+use Rattle.panoc_core.specs.Told.{Ended}
 use Rattle.panoc_core.specs.declared.panoc_cache.Run.{Run}
 use Rattle.panoc_core.specs.Values.{settings_of, said, first_point, second_point, Says}
 use Rattle.panoc_core.specs.Rest.{rest}
 use Rattle.panoc_core.specs.Calls.{Answers, asking, Points}
-use Rattle.claims.specs.History.{Runs, Call}
+use Rattle.claims.specs.History.{hands_back, number_of, Runs, Call}
 use Rattle.claims.specs.Trace.{left, Event, trace, weighed}
 use Rattle.claims.specs.Claim.{Each, Follows, ScoresRight, scores, Plan}
-
--- an outcome: whether a plan is handed back, and the number of a refusal
-abbrev pub hands_plan : Says → Bool
-hands_plan (Asked q) = false
-hands_plan (Ended e) = true
-hands_plan (Refused m) = false
-hands_plan (Failed c) = false
-
-abbrev pub number_of : Says → ℕ
-number_of (Asked q) = 0
-number_of (Ended e) = 0
-number_of (Refused m) = m
-number_of (Failed c) = 0
 
 -- the calls of an inner solve, each of which lends u
 abbrev pub inner_runs : Runs M.Question Handed
@@ -49,7 +36,7 @@ inner_runs =
       right = λ s us. eqb (length us) s.n;
       said = said;
       written = λ s p us. lent_after plan_of p us;
-      hands = hands_plan;
+      hands = hands_back;
       number = number_of;
     }
 

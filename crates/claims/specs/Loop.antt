@@ -1,5 +1,5 @@
 -- Demand 3 for the multiplier loop. Definitions only.
-use Rattle.std.specs.Prelude.{ℕ, ◌+◌, ◌*◌, ◌-◌, ◌≤◌, ◌≡◌, Bool, true, false, List, ◌∷◌, ◌⊎◌, Float, length}
+use Rattle.std.specs.Prelude.{◌+◌, ◌*◌, ◌-◌, ◌≤◌, ◌≡◌, true, List, ◌∷◌, ◌⊎◌, Float, length}
 use Rattle.std.proofs.Math.Option.{some}
 use Rattle.std.specs.Float.{binary64}
 use Rattle.std.specs.Float.Ieee.{add, mul, lt, le}
@@ -14,26 +14,13 @@ use Rattle.model.specs.Plans.{akkt_at}
 use Rattle.panoc_core.specs.declared.panoc_cache.ExitStatus.TheVariants.{Converged}
 use Rattle.alm_core.specs.declared.alm_cache.AlmSettings.{AlmSettings}
 use Rattle.alm_core.specs.declared.alm_cache.AlmOptimizerStatus.{AlmOptimizerStatus}
-use Rattle.panoc_core.specs.Told.{Asked, Ended, Refused, Failed}
+use Rattle.panoc_core.specs.Told.{Ended}
 use Rattle.alm_core.specs.declared.alm_cache.AlmRun.{AlmRun}
 use Rattle.alm_core.specs.Values.{settings_of, said, first_point, second_point, LoopSays}
 use Rattle.alm_calls.specs.LoopCalls.{rest_of, lent_right, Answers, asking, Points}
-use Rattle.claims.specs.History.{Runs, Call}
+use Rattle.claims.specs.History.{hands_back, number_of, Runs, Call}
 use Rattle.claims.specs.Trace.{left, Event, trace}
 use Rattle.claims.specs.Claim.{Each, Follows, ScoresRight, scores, tally, Plan}
-
--- an outcome: whether a plan is handed back, and the number of a refusal
-abbrev pub hands_plan : LoopSays → Bool
-hands_plan (Asked q) = false
-hands_plan (Ended e) = true
-hands_plan (Refused m) = false
-hands_plan (Failed c) = false
-
-abbrev pub number_of : LoopSays → ℕ
-number_of (Asked q) = 0
-number_of (Ended e) = 0
-number_of (Refused m) = m
-number_of (Failed c) = 0
 
 -- the lent u and xi
 pub record Places : Type 0 where
@@ -83,7 +70,7 @@ loop_runs =
       right = λ s w. lent_right s (length w.u) (length w.xi);
       said = said;
       written = λ s p w. record { u = lent_after loop_plan p w.u; xi = lent_after (loop_xi (settings_of s)) p w.xi };
-      hands = hands_plan;
+      hands = hands_back;
       number = number_of;
     }
 
