@@ -1,6 +1,7 @@
+use Rattle.panoc_core.specs.Told.{told}
 use Rattle.psi_image.specs.PsiStored.{psi_stored}
 use Rattle.host_psi_start.proofs.Laws.{psi_starts}
 use Rattle.host_psi_start.proofs.pozkerrin_psi_start.Goals as goal
 
 pub returns : goal.returns
-returns c = λ b. psi_starts _ _ _ _ _ _ (psi_stored c.start_in_place-r.result c.tell_psi.result c.keep_psi.new.w c.tell_psi.new.w c.keep_psi.new.k c.keep_psi.new.f c.tell_psi.new.f c.keep_psi.ensures c.tell_psi.ensures) (c.start_in_place-r.ensures b)
+returns c = λ b. psi_starts _ _ _ _ _ _ (psi_stored (told c.start_in_place-r.result) c.tell_psi.result c.keep_psi.new.w c.tell_psi.new.w c.keep_psi.new.k c.keep_psi.new.f c.tell_psi.new.f c.keep_psi.ensures c.tell_psi.ensures) (c.start_in_place-r.ensures b)
