@@ -14,9 +14,8 @@ use Rattle.model.proofs.EveryPsi.{d_psi_ends}
 use Rattle.model.specs.Refusing.{Refuses}
 use Rattle.model.proofs.Refusing.{psi_refuses, d_psi_refuses}
 use Rattle.factory.specs.declared.alm_factory.Sizes.{Sizes}
-use Rattle.panoc_core.specs.declared.outcome.Outcome.TheVariants.{Ended, Refused}
-use Rattle.panoc_core.specs.Outcomes.{said}
-use Rattle.factory.specs.FactoryValues.{sizes_of, psi_said, d_psi_said, DPsiAnswered, DPsiRun, PsiAnswered, PsiRun}
+use Rattle.panoc_core.specs.Told.{Ended, Refused, said}
+use Rattle.factory.specs.FactoryValues.{sizes_of, psi_said, d_psi_said, DPsiGave, DPsiRun, PsiGave, PsiRun}
 use Rattle.factory.specs.FactoryCalls.{PsiStarts, DPsiStarts, asking}
 use Rattle.claims.specs.History.{Call, History}
 use Rattle.claims.specs.Trace.{refusal, leads_to, left}
@@ -61,7 +60,7 @@ psi_lawful =
       hands = λ h. refl;
     }
 
-module _ (s : Sizes) (u xi : List Float) (a : PsiAnswered) (starts : PsiStarts s u xi a) (accepts : number a.outcome ≡ 0) where
+module _ (s : Sizes) (u xi : List Float) (a : PsiGave) (starts : PsiStarts s u xi a) (accepts : number a.outcome ≡ 0) where
   psi_same : start_psi binary64 (sizes_of s) u xi ≡ psi_of s u xi
   unfolding start_psi
   psi_same = begins psi_runs psi_lawful s _ (psi_of s u xi) a.outcome starts.outcome accepts
@@ -82,7 +81,7 @@ module _ (s : Sizes) (u xi : List Float) (a : PsiAnswered) (starts : PsiStarts s
       }
 
 -- A start that the table refuses: its number, and no run.
-pub psi_no_run : (s : Sizes) (u xi : List Float) (a : PsiAnswered) → PsiStarts s u xi a → (m : ℕ) → psi_refusal (sizes_of s) (length u) (length xi) ≡ suc m → (a.outcome ≡ Refused (suc m)) × Over psi_runs a.run
+pub psi_no_run : (s : Sizes) (u xi : List Float) (a : PsiGave) → PsiStarts s u xi a → (m : ℕ) → psi_refusal (sizes_of s) (length u) (length xi) ≡ suc m → (a.outcome ≡ Refused (suc m)) × Over psi_runs a.run
 unfolding start_psi said
 psi_no_run s u xi a starts m e = no_run psi_runs psi_lawful _ m (psi_of s u xi) a.outcome a.run starts.outcome starts.process e
 
@@ -117,7 +116,7 @@ d_psi_lawful =
       hands = λ h. refl;
     }
 
-module _ (s : Sizes) (u xi : List Float) (a : DPsiAnswered) (starts : DPsiStarts s u xi a) (accepts : number a.outcome ≡ 0) where
+module _ (s : Sizes) (u xi : List Float) (a : DPsiGave) (starts : DPsiStarts s u xi a) (accepts : number a.outcome ≡ 0) where
   d_psi_same : start_d_psi binary64 (sizes_of s) u xi ≡ d_psi_of s u xi
   unfolding start_d_psi
   d_psi_same = begins d_psi_runs d_psi_lawful s _ (d_psi_of s u xi) a.outcome starts.outcome accepts
@@ -145,6 +144,6 @@ module _ (s : Sizes) (u xi : List Float) (a : DPsiAnswered) (starts : DPsiStarts
       }
 
 -- A start that the table refuses: its number, and no run.
-pub d_psi_no_run : (s : Sizes) (u xi : List Float) (a : DPsiAnswered) → DPsiStarts s u xi a → (m : ℕ) → psi_refusal (sizes_of s) (length u) (length xi) ≡ suc m → (a.outcome ≡ Refused (suc m)) × Over d_psi_runs a.run
+pub d_psi_no_run : (s : Sizes) (u xi : List Float) (a : DPsiGave) → DPsiStarts s u xi a → (m : ℕ) → psi_refusal (sizes_of s) (length u) (length xi) ≡ suc m → (a.outcome ≡ Refused (suc m)) × Over d_psi_runs a.run
 unfolding start_d_psi said
 d_psi_no_run s u xi a starts m e = no_run d_psi_runs d_psi_lawful _ m (d_psi_of s u xi) a.outcome a.run starts.outcome starts.process e

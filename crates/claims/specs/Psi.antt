@@ -6,9 +6,8 @@ use Rattle.model.specs.Process as M
 use Rattle.model.specs.Psi.{psi, d_psi}
 use Rattle.model.specs.Refusals.{lent_after, penalty_in, multipliers_in}
 use Rattle.factory.specs.declared.alm_factory.Sizes.{Sizes}
-use Rattle.panoc_core.specs.declared.outcome.Outcome.{Outcome}
-use Rattle.panoc_core.specs.declared.outcome.Outcome.TheVariants.{Asked, Ended, Refused, Failed}
-use Rattle.factory.specs.FactoryValues.{sizes_of, psi_said, d_psi_said, first_point, second_point, DPsiOutcome, DPsiRun, PsiOutcome, PsiRun}
+use Rattle.panoc_core.specs.Told.{Told, Asked, Ended, Refused, Failed}
+use Rattle.factory.specs.FactoryValues.{sizes_of, psi_said, d_psi_said, first_point, second_point, DPsiSays, DPsiRun, PsiSays, PsiRun}
 use Rattle.factory.specs.FactoryRest.{psi_rest, d_psi_rest}
 use Rattle.factory.specs.FactoryCalls.{PsiAnswers, DPsiAnswers, result_of, asking, Points}
 use Rattle.claims.specs.History.{Runs, Call}
@@ -16,13 +15,13 @@ use Rattle.claims.specs.Trace.{left}
 use Rattle.claims.specs.Claim.{Each, Follows}
 
 -- an end that hands something back, and the number of a refusal, 0 for none
-abbrev pub hands : {Q E : Type 0} → Outcome Q E → Bool
+abbrev pub hands : {Q E : Type 0} → Told Q E → Bool
 hands (Asked q) = false
 hands (Ended x) = true
 hands (Refused m) = false
 hands (Failed c) = false
 
-abbrev pub number : {Q E : Type 0} → Outcome Q E → ℕ
+abbrev pub number : {Q E : Type 0} → Told Q E → ℕ
 number (Asked q) = 0
 number (Ended x) = 0
 number (Refused m) = m
@@ -36,7 +35,7 @@ psi_runs =
       Run = PsiRun;
       Settings = Sizes;
       Lent = Unit {0};
-      Outcome = PsiOutcome;
+      Outcome = PsiSays;
       Answers = λ run a v w w' o r. PsiAnswers run a v (record { outcome = o; run = r });
       settings = λ run. run.state.sizes;
       rest = psi_rest;
@@ -66,7 +65,7 @@ d_psi_runs =
       Run = DPsiRun;
       Settings = Sizes;
       Lent = List Float;
-      Outcome = DPsiOutcome;
+      Outcome = DPsiSays;
       Answers = λ run a v us ws o r. DPsiAnswers run a v us ws (record { outcome = o; run = r });
       settings = λ run. run.state.sizes;
       rest = d_psi_rest;
