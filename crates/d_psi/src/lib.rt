@@ -1,8 +1,9 @@
 // d_psi: the gradient of f with c × each transposed Jacobian product added, taken with t - P, t = F1 + y / c, and with F2.
 #![tactic(auto)]
 
-// The public calls take any run, also one that no start made: `wants` tests its sizes once, and the handlers ask for `Sound s.sizes`.
+// The public calls take any run, also one that no start made: `wants` tests its sizes once, and the handlers are told that they are sound.
 // Beside the handlers of psi, which have other phases and other vectors: each is a few calls of what both share.
+// The vectors are lent one by one, as C lends them, and a handler takes those that it needs: the others stay as they were.
 ghost use Rattle.std.specs.Prelude.{◌≡◌, true, ◌≤◌, length};
 ghost use Rattle.std.specs.Float.{binary64};
 ghost use Rattle.matrix_operations.specs.Firsts.{firsts};
@@ -12,7 +13,7 @@ ghost use Rattle.panoc_core.specs.Told.{told, answered};
 ghost use Rattle.panoc_core.specs.Values.{reply_of, kind_of};
 ghost use Rattle.factory.specs.declared.alm_factory.DPsiBoard.{DPsiBoard};
 ghost use Rattle.factory.specs.FactoryCalls.{DPsiAnswers};
-ghost use Rattle.factory.specs.FactoryBoard.{Sound, DPsiComes, DPsiTakes, run_of, gave, stepped, d_psi_kind, d_psi_f2_at, d_psi_g, d_psi_gw, d_psi_d, d_psi_ytw, d_psi_tdw, d_psi_five};
+ghost use Rattle.factory.specs.FactoryBoard.{Sound, Waits, DPsiComes, DPsiTakes, run_of, gave, stepped, d_psi_kind, d_psi_f2_at, d_psi_g, d_psi_gw, d_psi_d, d_psi_ytw, d_psi_tdw, d_psi_five};
 
 use factory::alm_factory::steps::{refuses, to, wants};
 use factory::alm_factory::terms::shifted_into;
@@ -24,7 +25,7 @@ use panoc_core::panoc_cache::Reply;
 use panoc_core::refusals::refusal;
 use panoc_plan::hand_out;
 
-// c × the product v is added to the gradient.
+// c × the product v is added to the gradient, of whose 64 places n are in use.
 #[tactic(auto, using(crate::proofs::DPsiLaws::product_added))]
 fn add_product(c: f64, v: &[f64], gradient: &mut [f64; 64], work: &mut [f64; 64], n: usize)
     requires { (n ≤ 64) × (length v.now ≡ n) }
@@ -49,7 +50,7 @@ fn ask_f2(s: DPsiState) -> DPsiStepped
 // The gradient of f at u is v.
 #[tactic(auto, using(factory::specs::FactoryLaws::sound_n))]
 fn on_gradient(s: DPsiState, v: &[f64], gradient: &mut [f64; 64]) -> DPsiStepped
-    requires { (Sound s.sizes) × (s.phase ≡ DPsiPhase.Gradient) × (length v.now ≡ s.sizes.n) }
+    requires { Waits s DPsiPhase.Gradient s.sizes.n v.now }
     ensures { (b : DPsiBoard) → DPsiTakes s (d_psi_g gradient.old b) Reply.Vector v.now (told result) (d_psi_g gradient.new b) }
 {
     vector_copies::take_into(v, gradient);
@@ -69,7 +70,7 @@ fn on_f1(
     t: &mut [f64; 64],
     work: &mut [f64; 64],
 ) -> DPsiStepped
-    requires { (Sound s.sizes) × (s.phase ≡ DPsiPhase.F1) × (length v.now ≡ s.sizes.n1) }
+    requires { Waits s DPsiPhase.F1 s.sizes.n1 v.now }
     ensures { (b : DPsiBoard) → DPsiTakes s (d_psi_ytw y.now t.old work.old b) Reply.Vector v.now (told result) (d_psi_ytw y.now t.new work.new b) }
 {
     shifted_into(s.c, v, y, t, work);
@@ -89,7 +90,7 @@ fn on_project_c(
     d: &mut [f64; 64],
     work: &mut [f64; 64],
 ) -> DPsiStepped
-    requires { (Sound s.sizes) × (s.phase ≡ DPsiPhase.ProjectC) × (length v.now ≡ s.sizes.n1) }
+    requires { Waits s DPsiPhase.ProjectC s.sizes.n1 v.now }
     ensures { (b : DPsiBoard) → DPsiTakes s (d_psi_tdw t.now d.old work.old b) Reply.Vector v.now (told result) (d_psi_tdw t.now d.new work.new b) }
 {
     vector_copies::take_into(v, work);
@@ -100,7 +101,7 @@ fn on_project_c(
 // The transposed Jacobian product of F1 is v.
 #[tactic(auto, using(factory::specs::FactoryLaws::sound_n))]
 fn on_jf1t(s: DPsiState, v: &[f64], gradient: &mut [f64; 64], work: &mut [f64; 64]) -> DPsiStepped
-    requires { (Sound s.sizes) × (s.phase ≡ DPsiPhase.Jf1t) × (length v.now ≡ s.sizes.n) }
+    requires { Waits s DPsiPhase.Jf1t s.sizes.n v.now }
     ensures { (b : DPsiBoard) → DPsiTakes s (d_psi_gw gradient.old work.old b) Reply.Vector v.now (told result) (d_psi_gw gradient.new work.new b) }
 {
     add_product(s.c, v, gradient, work, s.sizes.n);
@@ -110,7 +111,7 @@ fn on_jf1t(s: DPsiState, v: &[f64], gradient: &mut [f64; 64], work: &mut [f64; 6
 // F2 at u is v: its product is taken with it.
 #[tactic(auto, using(factory::specs::FactoryLaws::sound_n2))]
 fn on_f2(s: DPsiState, v: &[f64], d: &mut [f64; 64]) -> DPsiStepped
-    requires { (Sound s.sizes) × (s.phase ≡ DPsiPhase.F2) × (length v.now ≡ s.sizes.n2) }
+    requires { Waits s DPsiPhase.F2 s.sizes.n2 v.now }
     ensures { (b : DPsiBoard) → DPsiTakes s (d_psi_d d.old b) Reply.Vector v.now (told result) (d_psi_d d.new b) }
 {
     vector_copies::take_into(v, d);
@@ -120,7 +121,7 @@ fn on_f2(s: DPsiState, v: &[f64], d: &mut [f64; 64]) -> DPsiStepped
 // The transposed Jacobian product of F2 is v; the result stays in the gradient.
 #[tactic(auto, using(factory::specs::FactoryLaws::sound_n))]
 fn on_jf2t(s: DPsiState, v: &[f64], gradient: &mut [f64; 64], work: &mut [f64; 64]) -> DPsiStepped
-    requires { (Sound s.sizes) × (s.phase ≡ DPsiPhase.Jf2t) × (length v.now ≡ s.sizes.n) }
+    requires { Waits s DPsiPhase.Jf2t s.sizes.n v.now }
     ensures { (b : DPsiBoard) → DPsiTakes s (d_psi_gw gradient.old work.old b) Reply.Vector v.now (told result) (d_psi_gw gradient.new work.new b) }
 {
     add_product(s.c, v, gradient, work, s.sizes.n);
@@ -152,7 +153,7 @@ fn on_vector(
     }
 }
 
-// An answer that nothing refuses. A result stays in the gradient.
+// An answer that nothing refuses: each kind goes to another handler. A result stays in the gradient.
 #[tactic(auto, using(crate::proofs::DPsiLaws::vector_accepted, crate::proofs::DPsiLaws::number_refused, crate::proofs::DPsiLaws::yes_refused, crate::proofs::DPsiLaws::no_refused))]
 fn step(
     s: DPsiState,

@@ -1,5 +1,5 @@
 -- A run of psi or d_psi in place: its small part by value, and its vectors where they are lent. Definitions only.
-use Rattle.std.specs.Prelude.{◌≡◌, true, cond, List, Float}
+use Rattle.std.specs.Prelude.{ℕ, ◌≡◌, true, cond, List, Float, length}
 use Rattle.std.proofs.Math.Option.{Option, none, some}
 use Rattle.std.specs.Float.{binary64}
 use Rattle.matrix_operations.specs.Firsts.{firsts}
@@ -45,6 +45,10 @@ at p s = record s { phase = p }
 
 abbrev pub stepped : {P V : Type 0} → Told PsiQuestion V → P → State P V → Stepped (Told PsiQuestion V) (State P V)
 stepped o p s = record { outcome = o; state = at p s }
+
+-- v is a vector of n places, and the run waits at p, which a start made
+abbrev pub Waits : {P V : Type 0} → State P V → P → ℕ → List Float → Type 0
+Waits s p n v = (Sound s.sizes) × (s.phase ≡ p) × (length v ≡ n)
 
 -- what a run waits for, by its small part alone; kind_at is what it waits for at a phase
 unfoldable pub kind : {P V : Type 0} → (Sizes → P → Option Kind) → State P V → Option Kind

@@ -73,7 +73,7 @@ pub type PsiRun = Run<PsiState, PsiBoard>;
 
 pub type PsiAnswered = Answered<PsiOutcome, PsiRun>;
 
-// Which question a run of d_psi waits for. Over: it has ended.
+// Which question a run of d_psi waits for, where psi asks others. Over: it has ended.
 #[derive(Clone, Copy, PartialEq, Eq, Debug)]
 pub enum DPsiPhase {
     Gradient,

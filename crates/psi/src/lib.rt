@@ -1,15 +1,16 @@
 // psi: f + (c/2) × |t - P|² + (c/2) × |F2|², t = F1 + y / max(c, 1), P its projection on C.
 #![tactic(auto)]
 
-// The public calls take any run, also one that no start made: `wants` tests its sizes once, and the handlers ask for `Sound s.sizes`.
+// The public calls take any run, also one that no start made: `wants` tests its sizes once, and the handlers are told that they are sound.
 // Beside the handlers of d_psi, which have other phases and other vectors: each is a few calls of what both share.
+// The vectors are lent one by one, as C lends them, and a handler takes those that it needs: the others stay as they were.
 ghost use Rattle.std.specs.Prelude.{◌≡◌, true, List, Float, length};
 ghost use Rattle.model.specs.Refusals.{answer_refusal};
 ghost use Rattle.panoc_core.specs.Told.{told, answered};
 ghost use Rattle.panoc_core.specs.Values.{reply_of, kind_of};
 ghost use Rattle.factory.specs.declared.alm_factory.PsiBoard.{PsiBoard};
 ghost use Rattle.factory.specs.FactoryCalls.{PsiReaches, PsiAnswers};
-ghost use Rattle.factory.specs.FactoryBoard.{Sound, PsiTakes, run_of, gave, stepped, psi_kind, psi_f2_at, psi_w, psi_tw, psi_ytw};
+ghost use Rattle.factory.specs.FactoryBoard.{Sound, Waits, PsiTakes, run_of, gave, stepped, psi_kind, psi_f2_at, psi_w, psi_tw, psi_ytw};
 
 use factory::alm_factory::steps::{refuses, to, wants};
 use factory::alm_factory::terms::shifted_into;
@@ -55,7 +56,7 @@ fn on_f1(
     t: &mut [f64; 64],
     work: &mut [f64; 64],
 ) -> PsiStepped
-    requires { (Sound s.sizes) × (s.phase ≡ PsiPhase.F1) × (length v.now ≡ s.sizes.n1) }
+    requires { Waits s PsiPhase.F1 s.sizes.n1 v.now }
     ensures { (b : PsiBoard) → PsiTakes s (psi_ytw y.now t.old work.old b) Reply.Vector v.now (told result) (psi_ytw y.now t.new work.new b) }
 {
     shifted_into(divisor(s.c), v, y, t, work);
@@ -69,7 +70,7 @@ fn on_f1(
 // The projection of t is v.
 #[tactic(auto, using(factory::specs::FactoryLaws::sound_n1))]
 fn on_project_c(s: PsiState, v: &[f64], t: &[f64; 64], work: &mut [f64; 64]) -> PsiStepped
-    requires { (Sound s.sizes) × (s.phase ≡ PsiPhase.ProjectC) × (length v.now ≡ s.sizes.n1) }
+    requires { Waits s PsiPhase.ProjectC s.sizes.n1 v.now }
     ensures { (b : PsiBoard) → PsiTakes s (psi_tw t.now work.old b) Reply.Vector v.now (told result) (psi_tw t.now work.new b) }
 {
     vector_copies::take_into(v, work);
@@ -81,7 +82,7 @@ fn on_project_c(s: PsiState, v: &[f64], t: &[f64; 64], work: &mut [f64; 64]) -> 
 // F2 at u is v.
 #[tactic(auto, using(factory::specs::FactoryLaws::sound_n2))]
 fn on_f2(s: PsiState, v: &[f64], work: &mut [f64; 64]) -> PsiStepped
-    requires { (Sound s.sizes) × (s.phase ≡ PsiPhase.F2) × (length v.now ≡ s.sizes.n2) }
+    requires { Waits s PsiPhase.F2 s.sizes.n2 v.now }
     ensures { (b : PsiBoard) → PsiTakes s (psi_w work.old b) Reply.Vector v.now (told result) (psi_w work.new b) }
 {
     vector_copies::take_into(v, work);
@@ -111,7 +112,7 @@ fn on_vector(
     }
 }
 
-// An answer that nothing refuses.
+// An answer that nothing refuses: each kind goes to another handler.
 #[tactic(auto, using(crate::proofs::PsiLaws::vector_accepted, crate::proofs::PsiLaws::yes_not, crate::proofs::PsiLaws::no_not))]
 fn step(
     s: PsiState,

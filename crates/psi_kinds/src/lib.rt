@@ -91,6 +91,7 @@ impl Numbered for DPsiPhase {
     }
 }
 
+// The numbers for C, which a question has in the loop too: an impl of From would have to stand in the questions' own crate.
 pub fn question_number(q: PsiQuestion) -> u32
     ensures { result ≡ question_number q }
 {
@@ -106,6 +107,7 @@ pub fn question_number(q: PsiQuestion) -> u32
 }
 
 // An answer: 0 the number x, 1 a vector, 2 yes, 4 the failure code; another number is a no, which neither psi nor d_psi ever takes.
+// Beside that of image, which takes 4 and above as a failure: there calls for C test the kind first.
 pub fn reply_of(kind: u32, x: f64, code: u32) -> Reply
     ensures { result ≡ reply_of kind x code }
 {

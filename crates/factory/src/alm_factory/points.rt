@@ -6,7 +6,7 @@ ghost use Rattle.factory.specs.FactoryCalls.{Placed};
 
 use panoc_core::outcome::Refusal;
 
-// The first n places of p and m of q into the slices, or a refusal where one is not as long: they then stay as they were.
+// The first n places of p and m of q, of 64 each, into the slices, or a refusal where one is not as long: they then stay as they were.
 #[tactic(auto, using(crate::specs::FactoryLaws::placed_not_first, crate::specs::FactoryLaws::placed_not_second))]
 pub fn place(
     p: &[f64; 64],
