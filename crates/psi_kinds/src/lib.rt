@@ -34,6 +34,7 @@ impl Numbered for PsiPhase {
 
     ghost round = { psi_round };
 
+    #[tactic(auto, using(crate::proofs::Laws::psi_past))]
     fn of(number: u32) -> PsiPhase {
         match number {
             0 => PsiPhase::Over,
@@ -65,6 +66,7 @@ impl Numbered for DPsiPhase {
 
     ghost round = { d_psi_round };
 
+    #[tactic(auto, using(crate::proofs::Laws::d_psi_past))]
     fn of(number: u32) -> DPsiPhase {
         match number {
             0 => DPsiPhase::Over,
@@ -108,6 +110,7 @@ pub fn question_number(q: PsiQuestion) -> u32
 
 // An answer: 0 the number x, 1 a vector, 2 yes, 4 the failure code; another number is a no, which neither psi nor d_psi ever takes.
 // Beside that of image, which takes 4 and above as a failure: there calls for C test the kind first.
+#[tactic(auto, using(crate::proofs::Laws::reply_past))]
 pub fn reply_of(kind: u32, x: f64, code: u32) -> Reply
     ensures { result ≡ reply_of kind x code }
 {
