@@ -14,7 +14,7 @@ use panoc_core::outcome::Refusal;
 
 // Beside that of d_psi, since the phases, the lent vectors and the second points are others.
 // The point of the question of a run in place, into first; no question of psi has a second.
-#[tactic(auto, using(factory::specs::FactoryLaws::sound_n, factory::specs::FactoryLaws::sound_n1))]
+#[tactic(auto, using(factory::specs::FactoryLaws::sound_n, factory::specs::FactoryLaws::sound_n1, factory::specs::FactoryRuns::points_over, factory::specs::FactoryRuns::points_wild), unfolding(factory::specs::FactoryRest::psi_resume))]
 pub fn points_in_place<'a>(
     s: PsiState,
     first: &mut [f64],

@@ -3,7 +3,7 @@ use Rattle.matrix_operations.specs.Firsts.{firsts}
 use Rattle.factory.specs.declared.alm_factory.DPsiPhase.TheVariants as P
 use Rattle.factory.specs.FactoryRest.{d_psi_resume}
 use Rattle.factory.specs.FactoryBoard.{d_psi_utd}
-use Rattle.factory.specs.FactoryRuns.{points_at, points_over, points_wild}
+use Rattle.factory.specs.FactoryRuns.{points_at}
 use Rattle.d_psi_points.proofs.points_in_place.Goals as goal
 
 pub returns-in-Gradient : goal.returns-in-Gradient
@@ -25,10 +25,3 @@ returns-in-Jf1t c = λ b. points_at d_psi_resume c.args.s (d_psi_utd c.args.u.no
 pub returns-in-Jf2t : goal.returns-in-Jf2t
 unfolding d_psi_resume firsts
 returns-in-Jf2t c = λ b. points_at d_psi_resume c.args.s (d_psi_utd c.args.u.now c.args.t.now c.args.d.now b) P.Jf2t _ _ _ _ _ _ _ _ (sym c.sound.ensures ∙ c.if-not-sound.false) c.in-Jf2t.is refl c.place-in-Jf2t.ensures
-
-pub returns-in-Over : goal.returns-in-Over
-unfolding d_psi_resume
-returns-in-Over c = λ b. points_over d_psi_resume c.args.s (d_psi_utd c.args.u.now c.args.t.now c.args.d.now b) P.Over c.args.first.now c.args.second.now c.in-Over.is refl
-
-pub returns-then-not-sound : goal.returns-then-not-sound
-returns-then-not-sound c = λ b. points_wild d_psi_resume c.args.s (d_psi_utd c.args.u.now c.args.t.now c.args.d.now b) c.args.first.now c.args.second.now (sym c.sound.ensures ∙ c.if-not-sound.true)
