@@ -1,17 +1,20 @@
 -- The numbers that `parts` and `root_bits` make of a pattern, over the format: a bound between numerals is shown at each of the two. Assumes nothing.
 use mathlib.Core.Path.{◌≡◌, refl, sym, ap, ◌∙◌, subst}
 use mathlib.Core.Bool.{not}
+use mathlib.Core.Logic.{inl, inr}
 use Prim.Native.Nat.{ℕ, zero, suc, ◌+◌, ◌-◌, ◌*◌, ◌/◌, ◌%◌, ◌^◌, ◌≤◌, ◌<◌}
 use native.Mathlib.Nat.{le_trans, le_of_eq, lt_irrefl, lt_of_le_of_lt, lt_of_lt_of_le, mul_assoc, mul-one, mul_right_comm, mul-le-mul_right, mul-lt-mul_of_pos_right, pow-succ', zero-lt-suc}
 use native.Mathlib.Omega.{arith}
-use lib.Dec.{T, lit≤}
+use lib.Dec.{T}
 use lib.Pow.{pow-add, pow_pos, pow_mono, shl_lt}
+use Rattle.std.proofs.lemmas.Bool.{cases_lt}
+use lib.Count.{count_leading_zeros, leading_top}
 use lib.Ieee.{Format, binary32, binary64, prec, emax, low, hid, ones, of_bits, nan_bits}
 use Rattle.ieee.specs.Root.{root}
 use Rattle.ieee.specs.Squares.{IsRoot, IsNear}
-use Rattle.ieee.proofs.Squares.{sq_one, sq_double, sq_lt_back, four_more, near_root, root_near, root_of_digits}
+use Rattle.ieee.proofs.Squares.{sq_one, sq_double, sq_lt_back, near_root, root_near, root_of_digits}
 use Rattle.ieee.specs.Patterns.{mag, Sized}
-use Rattle.ieee.proofs.Patterns.{mag_small, mag_normal, mag_pos, root_bits, of_bits_units, no_nan_below}
+use Rattle.ieee.proofs.Patterns.{mag_small, mag_normal, root_bits, of_bits_units, no_nan_below}
 
 pows : (m t j x l : ℕ) → t + (j + j) ≡ x + l → m * 2 ^ t * (2 ^ j * 2 ^ j) ≡ m * 2 ^ x * 2 ^ l
 pows m t j x l e =
@@ -27,9 +30,58 @@ level : (f : Format) → suc (prec f) + (suc (bias f) / 2 + suc (bias f) / 2) �
 level binary32 = refl
 level binary64 = refl
 
-pub sized_small : (f : Format) (b : ℕ) → b < hid f → Sized f b b (suc (bias f) / 2)
+even_shift : (f : Format) (k : ℕ) → k ≤ suc (bias f) / 2 → 2 * k + suc (prec f) + (suc (bias f) / 2 - k + (suc (bias f) / 2 - k)) ≡ 0 + low f
+even_shift f k h = omega (arith, level f)
+
+sized_small : (f : Format) (b k : ℕ) → b < hid f → k ≤ suc (bias f) / 2 → Sized f b (b * 2 ^ (2 * k)) (suc (bias f) / 2 - k)
 unfolding Sized
-sized_small f b h = pows b (suc (prec f)) (suc (bias f) / 2) 0 (low f) (level f) ∙ ap (λ (x : ℕ). x * 2 ^ low f) (mul-one b ∙ sym (mag_small f b h))
+sized_small f b k h l =
+    let j = suc (bias f) / 2 - k in
+    ap (λ (x : ℕ). x * (2 ^ j * 2 ^ j)) (mul_assoc b (2 ^ (2 * k)) (2 ^ suc (prec f)) ∙ ap (λ (x : ℕ). b * x) (sym (pow-add 2 (2 * k) (suc (prec f)))))
+    ∙ pows b (2 * k + suc (prec f)) j 0 (low f) (even_shift f k l)
+    ∙ ap (λ (x : ℕ). x * 2 ^ low f) (mul-one b ∙ sym (mag_small f b h))
+
+-- ---- a subnormal that is shifted by an even number of digits, with 52 or 53 behind the first
+-- the shift by two digits at a time
+abbrev pub steps : ℕ → ℕ
+steps b = (count_leading_zeros 64 b - 10) / 2
+
+under_52 : (j b : ℕ) → 2 ^ j ≤ b → b < 2 ^ 52 → j < 52
+under_52 j b l h = elim (cases_lt j 52) [
+  | inl k ↦ k
+  | inr k ↦ absurd (lt_irrefl b (lt_of_lt_of_le h (le_trans (pow_mono k) l)))
+]
+
+-- its first digit stands at j
+has_first : (b : ℕ) → 0 < b → b < 2 ^ 52 → (j : ℕ) × (count_leading_zeros 64 b + suc j ≡ 64) × (2 ^ j ≤ b) × (b < 2 ^ suc j) × (j < 52)
+has_first b p h =
+    let t = leading_top 64 b p (omega arith) in
+    (t.0, t.1, t.2, t.3, under_52 t.0 b t.2 h)
+
+pub zeros_lo : (b : ℕ) → 0 < b → b < 2 ^ 52 → 12 ≤ count_leading_zeros 64 b
+zeros_lo b p h = let t = has_first b p h in omega arith
+
+lo_at : (b j k : ℕ) → 2 ^ j ≤ b → 52 ≤ j + 2 * k → 2 ^ 52 ≤ b * 2 ^ (2 * k)
+lo_at b j k l h = le_trans (pow_mono h) (le_trans (le_of_eq (pow-add 2 j (2 * k))) (mul-le-mul_right (2 ^ (2 * k)) l))
+
+-- four times a number, and so at most 2 ^ 54 - 4
+hi_at : (b j k : ℕ) → b < 2 ^ suc j → 0 < k → j + 2 * k ≤ 53 → b * 2 ^ (2 * k) < 2 ^ 54 - 1
+hi_at b j zero l p h = elim p [ ]
+hi_at b j (suc k) l p h =
+    let fits : suc j + 2 * k ≤ 52 = omega arith in
+    let under : b * 2 ^ (2 * k) < 2 ^ 52 = lt_of_lt_of_le (shl_lt (suc j) (2 * k) l) (pow_mono fits) in
+    let same : 2 * suc k ≡ 2 + 2 * k = omega arith in
+    let four : b * 2 ^ (2 * suc k) ≡ 4 * (b * 2 ^ (2 * k)) = ap (λ (z : ℕ). b * 2 ^ z) same ∙ ap (λ (z : ℕ). b * z) (pow-add 2 2 (2 * k)) ∙ native.Mathlib.Nat.mul_left_comm b 4 (2 ^ (2 * k)) in
+    omega arith
+
+pub shifted : (b : ℕ) → 0 < b → b < 2 ^ 52
+    → (2 ^ 52 ≤ b * 2 ^ (2 * steps b) % 2 ^ 64) × (b * 2 ^ (2 * steps b) % 2 ^ 64 < 2 ^ 54 - 1) × Sized binary64 b (b * 2 ^ (2 * steps b) % 2 ^ 64) (510 - steps b)
+shifted b p h =
+    let t = has_first b p h in
+    let lo : 2 ^ 52 ≤ b * 2 ^ (2 * steps b) = lo_at b t.0 (steps b) t.2 (omega arith) in
+    let hi : b * 2 ^ (2 * steps b) < 2 ^ 54 - 1 = hi_at b t.0 (steps b) t.3 (omega arith) (omega arith) in
+    let same : b * 2 ^ (2 * steps b) % 2 ^ 64 ≡ b * 2 ^ (2 * steps b) = omega arith in
+    rw same (lo, hi, sized_small binary64 b (steps b) h (omega arith))
 
 odd_sum : (f : Format) (e : ℕ) → 1 ≤ e → e % 2 ≡ 1 → suc (prec f) + ((e + bias f) / 2 + (e + bias f) / 2) ≡ e - 1 + low f
 odd_sum binary32 e l o = omega arith
@@ -66,37 +118,9 @@ sized_even f b h o =
     ∙ pows m (suc (suc (prec f))) j (e - 1) (low f) (even_sum f e (field f b h) o)
     ∙ ap (λ (x : ℕ). x * 2 ^ low f) (sym (mag_normal f b h))
 
--- ---- the loop of `root_bits`
 -- m has one digit more than the format keeps, and is not all ones
 abbrev pub Small : Format → ℕ → Type 0
 Small f m = m < 2 ^ suc (prec f) - 1
-
-short : (f : Format) → (2 ^ suc (prec f) - 1) * 2 ^ suc (prec f) ≤ 1 * 2 ^ low f
-short binary32 = lit≤ tt
-short binary64 = lit≤ tt
-
-no_zero : (f : Format) (a b : ℕ) → 0 < b → Small f a → a * 2 ^ suc (prec f) * 1 ≡ b * 2 ^ low f → ⊥
-no_zero f a b p h e =
-    lt_irrefl (b * 2 ^ low f)
-    (lt_of_le_of_lt (le_of_eq (sym e ∙ mul-one (a * 2 ^ suc (prec f))))
-    (lt_of_lt_of_le (mul-lt-mul_of_pos_right h (pow_pos (suc (prec f)))) (le_trans (short f) (mul-le-mul_right (2 ^ low f) p))))
-
-pub j_pos : (f : Format) (b m j : ℕ) → 0 < b → Small f m → Sized f b m j → 0 < j
-unfolding Sized
-j_pos f b m zero p h s = absurd (no_zero f m (mag f b) (mag_pos f b p) h s)
-j_pos f b m (suc j) p h s = zero-lt-suc j
-
-sized_more : (f : Format) (b m i : ℕ) → Sized f b m (suc i) → Sized f b (m * 4) i
-unfolding Sized
-sized_more f b m i s =
-    let w = 2 ^ suc (prec f) in
-    ap (λ (x : ℕ). x * (2 ^ i * 2 ^ i)) (mul_right_comm m 4 w) ∙ mul_assoc (m * w) 4 (2 ^ i * 2 ^ i) ∙ ap (λ (x : ℕ). m * w * x) (sym (four_more i)) ∙ s
-
-pub sized_again : (f : Format) (b m j : ℕ) → 0 < j → Sized f b m j → Sized f b (m * 4) (j - 1)
-sized_again f b m j p s = sized_more f b m (j - 1) (subst (λ (k : ℕ). Sized f b m k) (down j p) s)
-  where
-    down : (j : ℕ) → 0 < j → j ≡ suc (j - 1)
-    down j p = omega arith
 
 -- ---- the result
 square_lo : (f : Format) (m : ℕ) → hid f ≤ m → 2 ^ prec f * 2 ^ prec f ≤ m * 2 ^ suc (prec f)

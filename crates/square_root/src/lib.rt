@@ -21,13 +21,17 @@ struct Scaled {
     j: u64,
 }
 
-// The size of a number above zero as m * 2^54 * 4^j squares of the smallest value.
+// The size of a number above zero as m * 2^54 * 4^j squares of the smallest value. A subnormal is shifted up by two digits at a time.
 fn parts(b: u64) -> Scaled
     requires { (0 < b) × (b < 9218868437227405312) }
-    ensures { (result.m < 18014398509481983) × (result.j ≤ 1532) × (Sized binary64 b result.m result.j) }
+    ensures { (2 ^ 52 ≤ result.m) × (result.m < 18014398509481983) × (result.j ≤ 1532) × (Sized binary64 b result.m result.j) }
 {
     if b < HID {
-        return Scaled { m: b, j: 510 };
+        let k = (b.leading_zeros() - 10) / 2;
+        return Scaled {
+            m: b << (2 * k),
+            j: 510 - u64::from(k),
+        };
     }
     let e = b / HID;
     let m = HID + b % HID;
@@ -66,11 +70,6 @@ pub fn root_bits(b: u64) -> u64
     requires { (0 < b) × (b < 9218868437227405312) }
     ensures { (T (not (nan_bits binary64 result))) × (of_bits binary64 result ≡ root binary64 (of_bits binary64 b)) }
 {
-    let Scaled { mut m, mut j } = parts(b);
-    // by leading_zeros it would be no plainer: m grows by two digits a step, and j falls by one
-    while m < HID {
-        m *= 4;
-        j -= 1;
-    }
+    let Scaled { m, j } = parts(b);
     (j + 1) * HID + nearest(m)
 }

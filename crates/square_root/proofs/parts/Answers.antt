@@ -1,14 +1,19 @@
 -- `square_root::parts` meets its contract (`proofs/Scaling.antt`). Assumes nothing.
 use Rattle.std.proofs.Common.{arith}
 use Rattle.std.specs.Float.Ieee.{binary64}
-use Rattle.square_root.proofs.Scaling.{sized_small, sized_odd, sized_even}
+use Rattle.square_root.proofs.Scaling.{zeros_lo, shifted, sized_odd, sized_even}
 use Rattle.square_root.proofs.parts.Goals as goal
 
+pub overflow_sub-k : goal.overflow_sub-k
+overflow_sub-k c = omega (arith, zeros_lo c.args.b c.requires.0 c.if-b-lt-HID.true)
+
 pub returns-then-b-lt-HID : goal.returns-then-b-lt-HID
-returns-then-b-lt-HID c = (omega arith, omega arith, sized_small binary64 c.args.b c.if-b-lt-HID.true)
+returns-then-b-lt-HID c =
+    let h = shifted c.args.b c.requires.0 c.if-b-lt-HID.true in
+    rw c.from.ensures (h.0, h.1, omega arith, h.2)
 
 pub returns-then-e-eq0 : goal.returns-then-e-eq0
-returns-then-e-eq0 c = (omega arith, omega arith, sized_even binary64 c.args.b c.if-b-lt-HID.false c.if-e-eq0.true)
+returns-then-e-eq0 c = (omega arith, omega arith, omega arith, sized_even binary64 c.args.b c.if-b-lt-HID.false c.if-e-eq0.true)
 
 pub returns : goal.returns
-returns c = (omega arith, omega arith, sized_odd binary64 c.args.b c.if-b-lt-HID.false c.if-e-eq0.false)
+returns c = (omega arith, omega arith, omega arith, sized_odd binary64 c.args.b c.if-b-lt-HID.false c.if-e-eq0.false)
