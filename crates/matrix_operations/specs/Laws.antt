@@ -43,6 +43,21 @@ firsts_all [] (suc n) e = absurd (omega arith)
 firsts_all (x ∷ l) zero e = absurd (omega arith)
 firsts_all (x ∷ l) (suc n) e = ap (λ (t : List Float). x ∷ t) (firsts_all l n (omega arith))
 
+-- a list of so many has them with another list behind it too
+pub firsts_part : (l rest : List Float) (n : ℕ) → length l ≡ n → firsts n (l ++ rest) ≡ firsts n l
+unfolding firsts
+firsts_part [] rest zero e = refl
+firsts_part [] rest (suc n) e = absurd (omega arith)
+firsts_part (x ∷ l) rest zero e = absurd (omega arith)
+firsts_part (x ∷ l) rest (suc n) e = ap (λ (t : List Float). x ∷ t) (firsts_part l rest n (omega arith))
+
+-- and the slice of so many has them
+pub firsts_taken : (n : ℕ) (l : List Float) → n ≤ length l → firsts n (take n l) ≡ firsts n l
+unfolding firsts
+firsts_taken zero l h = refl
+firsts_taken (suc n) [] h = absurd (not-suc-le-zero h)
+firsts_taken (suc n) (x ∷ l) h = ap (λ (t : List Float). x ∷ t) (firsts_taken n l (le_of_suc-le-suc h))
+
 -- of equal numbers they are equal numbers
 pub firsts_replicate : (n m : ℕ) (z : Float) → n ≤ m → firsts n (replicate m z) ≡ replicate n z
 unfolding firsts

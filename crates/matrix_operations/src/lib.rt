@@ -13,8 +13,8 @@ pub fn fill<F: Fn(usize) -> f64>(r: &mut [f64; 64], n: usize, f: F)
     requires callable { (i : ℕ) → i < n → F.pre f i }
     ensures { (xs : List Float) → length xs ≡ n → Gives (λ i y. F.post f i y) xs → firsts n r.new ≡ xs }
 {
-    for i in 0..n {
-        r[i] = f(i);
+    for (i, x) in r[..n].iter_mut().enumerate() {
+        *x = f(i);
     }
 }
 

@@ -5,4 +5,4 @@ use Rattle.matrix_operations.specs.Firsts.{firsts, Gives}
 use Rattle.matrix_operations.proofs.fill.Given as goal
 
 abbrev pub invariant-loop-i : goal.invariant-loop-i
-invariant-loop-i g l = (length l.r ≡ 64) × ((xs : List Float) → length xs ≡ l.n → Gives (λ i y. goal.F-post g l.f i y) xs → firsts l.i l.r ≡ firsts l.i xs)
+invariant-loop-i g l = (length l.x-items ≡ l.n) × ((xs : List Float) → length xs ≡ l.n → Gives (λ i y. goal.F-post g l.f i y) xs → firsts l.i l.x-items ≡ firsts l.i xs)
