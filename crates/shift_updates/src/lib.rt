@@ -30,10 +30,10 @@ pub fn shift_into(u: &mut [f64; 64], n: usize) -> f64
     ensures size { result ≡ norm binary64 (shifts binary64 (firsts n u.old)) }
 {
     let mut s = 0.0;
-    for i in 0..n {
-        let t = shift_at(u[i]);
+    for x in u[..n].iter_mut() {
+        let t = shift_at(*x);
         s += t * t;
-        u[i] += t;
+        *x += t;
     }
     numeric::sqrt(s)
 }

@@ -7,5 +7,5 @@ use Rattle.model.specs.Vectors.{shifts, shifted}
 use Rattle.matrix_operations.specs.Firsts.{firsts}
 use Rattle.shift_updates.proofs.shift_into.Given as goal
 
-abbrev pub invariant-loop-i : goal.invariant-loop-i
-invariant-loop-i l = (length l.u ≡ 64) × (drop l.i l.u ≡ drop l.i l.initial.u) × (firsts l.i l.u ≡ shifted binary64 (firsts l.i l.initial.u)) × (l.s ≡ squares binary64 (shifts binary64 (firsts l.i l.initial.u)))
+abbrev pub invariant-loop-x : goal.invariant-loop-x
+invariant-loop-x l = (length l.x-items ≡ l.n) × (drop l.x-index l.x-items ≡ drop l.x-index l.initial.x-items) × (firsts l.x-index l.x-items ≡ shifted binary64 (firsts l.x-index l.initial.x-items)) × (l.s ≡ squares binary64 (shifts binary64 (firsts l.x-index l.initial.x-items)))
