@@ -11,8 +11,8 @@ pub fn add_times(gamma: f64, b: &[f64; 64], r: &mut [f64; 64], n: usize)
     requires { n ≤ 64 }
     ensures { firsts n r.new ≡ plus_times binary64 gamma (firsts n r.old) (firsts n b.now) }
 {
-    // r is read too, which `matrix_operations::fill` cannot lend to its closure
-    for i in 0..n {
-        r[i] += gamma * b[i];
+    // r is read too, which `matrix_operations::fill` cannot lend to its closure; of a zip with b a proof does not know what was written
+    for (i, x) in r[..n].iter_mut().enumerate() {
+        *x += gamma * b[i];
     }
 }

@@ -7,4 +7,4 @@ use Rattle.matrix_operations.specs.Firsts.{firsts}
 use Rattle.vector_additions.proofs.add_times.Given as goal
 
 abbrev pub invariant-loop-i : goal.invariant-loop-i
-invariant-loop-i l = (length l.r ≡ 64) × (drop l.i l.r ≡ drop l.i l.initial.r) × (firsts l.i l.r ≡ plus_times binary64 l.gamma (firsts l.i l.initial.r) (firsts l.i l.b))
+invariant-loop-i l = (length l.x-items ≡ l.n) × (drop l.i l.x-items ≡ drop l.i l.initial.x-items) × (firsts l.i l.x-items ≡ plus_times binary64 l.gamma (firsts l.i l.initial.x-items) (firsts l.i l.b))
