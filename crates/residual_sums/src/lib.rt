@@ -29,11 +29,11 @@ pub fn residual_into(
 {
     let mut s = 0.0;
     let mut t = 0.0;
-    for i in 0..n {
+    for (i, left) in r[..n].iter_mut().enumerate() {
         let x = u[i] - h[i];
         s += x * x;
         t += g[i] * x;
-        r[i] = x;
+        *left = x;
     }
     ResidualSums {
         norm: numeric::sqrt(s),

@@ -8,4 +8,4 @@ use Rattle.matrix_operations.specs.Firsts.{firsts}
 use Rattle.residual_sums.proofs.residual_into.Given as goal
 
 abbrev pub invariant-loop-i : goal.invariant-loop-i
-invariant-loop-i l = (length l.r ≡ 64) × (firsts l.i l.r ≡ minus binary64 (firsts l.i l.u) (firsts l.i l.h)) × (l.s ≡ squares binary64 (minus binary64 (firsts l.i l.u) (firsts l.i l.h))) × (l.t ≡ dot binary64 (firsts l.i l.g) (minus binary64 (firsts l.i l.u) (firsts l.i l.h)))
+invariant-loop-i l = (length l.left-items ≡ l.n) × (firsts l.i l.left-items ≡ minus binary64 (firsts l.i l.u) (firsts l.i l.h)) × (l.s ≡ squares binary64 (minus binary64 (firsts l.i l.u) (firsts l.i l.h))) × (l.t ≡ dot binary64 (firsts l.i l.g) (minus binary64 (firsts l.i l.u) (firsts l.i l.h)))
