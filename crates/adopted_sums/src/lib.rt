@@ -12,8 +12,8 @@ pub fn adopt_into(w: &[f64; 64], h: &[f64; 64], u: &mut [f64; 64], r: &mut [f64;
     ensures point { firsts n u.new ≡ firsts n w.now }
     ensures residual { firsts n r.new ≡ minus binary64 (firsts n w.now) (firsts n h.now) }
 {
-    for i in 0..n {
-        u[i] = w[i];
-        r[i] = w[i] - h[i];
+    for (i, x) in w[..n].iter().enumerate() {
+        u[i] = *x;
+        r[i] = *x - h[i];
     }
 }
