@@ -1,4 +1,5 @@
 // A float printed by its bits, behind what a line already holds.
+// The put_.. are no Display: their contracts say the very text that goes behind what the buffer holds, which Display gives no caller.
 #![tactic(auto)]
 
 ghost use Rattle.arrayvec.specs.ArrayVec.{array_vec_len};
@@ -13,7 +14,7 @@ use word_printing::put_digits;
 // The pattern that is printed for every NaN.
 const QUIET: u64 = 9221120237041090560;
 
-// The bits of a float.
+// The bits of a float; `f64::to_bits` asks that it is no NaN.
 pub fn to_bits(x: f64) -> u64
     ensures { result ≡ to_bits binary64 x }
 {

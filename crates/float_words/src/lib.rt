@@ -24,7 +24,7 @@ pub fn read_pattern(word: &[u8]) -> Option<u64>
     numeral(16, word)
 }
 
-// The float of a pattern; every NaN pattern is NaN.
+// The float of a pattern; every NaN pattern is NaN, while `f64::from_bits` asks that it is none of those.
 pub fn of_bits(b: u64) -> f64
     ensures { result ≡ of_bits binary64 b }
 {

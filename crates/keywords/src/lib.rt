@@ -19,7 +19,7 @@ pub enum Keyword {
     Show,
 }
 
-// The words that begin a line.
+// The words that begin a line: one arm a word is the table itself.
 pub fn begins(w: &[u8]) -> Option<Keyword>
     ensures { result ≡ keyword_of w.now }
 {

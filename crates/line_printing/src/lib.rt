@@ -1,4 +1,5 @@
 // What is printed of several, behind what a line already holds: floats, and a word with floats or a number behind it.
+// The put_.. are no Display: their contracts say the very text that goes behind what the buffer holds, which Display gives no caller.
 #![tactic(auto)]
 
 ghost use Rattle.arrayvec.specs.ArrayVec.{array_vec_len};

@@ -5,7 +5,7 @@ ghost use Rattle.std.specs.Prelude.{◌≡◌, ◌≤◌, ◌^◌};
 ghost use Rattle.word_numbers.specs.Digits.{digit_of, numeral as Digits·numeral};
 ghost use Rattle.word_numbers.specs.Reading.{under, whole_of};
 
-// What a byte counts as a digit.
+// What a byte counts as a digit. `char::to_digit` takes upper case too, which is no digit here.
 #[tactic(auto, using(std::proofs::lemmas::Bool::Decides::nat_tests), unfolding(crate::specs::Digits::digit))]
 pub fn digit(c: u8) -> Option<u64>
     ensures { result ≡ digit_of c }

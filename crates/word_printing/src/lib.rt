@@ -1,4 +1,5 @@
 // What is printed, behind what a line already holds: a word, digits, a whole number. A line has a fixed room.
+// The put_.. are no Display: their contracts say the very text that goes behind what the buffer holds, which Display gives no caller.
 #![tactic(auto)]
 
 ghost use Rattle.arrayvec.specs.ArrayVec.{array_vec_len};
@@ -9,7 +10,7 @@ ghost use Rattle.word_printing.specs.Printing.{whole_word};
 
 use arrayvec::ArrayVec;
 
-// The byte of a digit.
+// The byte of a digit. `char::from_digit` gives an Option of a char, to be opened and narrowed again.
 pub fn glyph(d: u64) -> u8
     requires { d < 16 }
     ensures { result ≡ Digits·glyph d }
