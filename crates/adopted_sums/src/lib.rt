@@ -1,4 +1,5 @@
 // A point that is adopted, with its residual.
+// An array with a count, as C lends it: with slices, tried and as fast, each caller owes bounds, and that a slice holds the first places.
 #![tactic(auto)]
 
 ghost use Rattle.std.specs.Prelude.{◌≡◌, ◌≤◌};

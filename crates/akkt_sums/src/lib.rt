@@ -1,4 +1,5 @@
 // The AKKT residual: the sum of its squares, and its norm.
+// An array with a count, as C lends it: with slices, tried and as fast, each caller owes bounds, and that a slice holds the first places.
 #![tactic(auto)]
 
 ghost use Rattle.std.specs.Prelude.{◌≡◌, ◌≤◌};

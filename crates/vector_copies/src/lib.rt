@@ -1,4 +1,5 @@
 // Vectors copied, into an array of 64 and out of one; zeros, and infinity.
+// An array with a count, as C lends it: with slices, tried and as fast, each caller owes bounds, and that a slice holds the first places.
 #![tactic(auto)]
 
 ghost use Rattle.std.specs.Prelude.{◌≡◌, false, ◌≤◌, length, replicate};
