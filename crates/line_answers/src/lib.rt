@@ -8,7 +8,8 @@ ghost use Rattle.line_starts.specs.Lines.{closed, number_line, vector_line, fail
 use arrayvec::ArrayVec;
 use line_fields::Fields;
 use line_starts::alone;
-use line_starts::command::{Command, Given, Said};
+use line_starts::command::{Command, Said};
+use panoc_core::panoc_cache::Reply;
 
 // A command without further fields.
 pub fn bare<const U: usize, const XI: usize>(
@@ -30,7 +31,7 @@ pub fn number<const U: usize, const XI: usize>(mut fields: Fields) -> Option<Sai
     ensures { result ≡ number_line U XI (left fields.entry) }
 {
     let x = fields.float()?;
-    bare(fields, Command::Answer(Given::Number(x)))
+    bare(fields, Command::Answer(Reply::Number(x)))
 }
 
 // vector X...
@@ -39,7 +40,7 @@ pub fn vector<const U: usize, const XI: usize>(fields: Fields) -> Option<Said<U,
     ensures { result ≡ vector_line U XI (left fields.entry) }
 {
     Some(Said {
-        command: Command::Answer(Given::Vector),
+        command: Command::Answer(Reply::Vector),
         first: fields.rest()?,
         second: ArrayVec::new(),
     })
@@ -51,7 +52,7 @@ pub fn failure<const U: usize, const XI: usize>(mut fields: Fields) -> Option<Sa
     ensures { result ≡ failure_line U XI (left fields.entry) }
 {
     let code = fields.code()?;
-    bare(fields, Command::Answer(Given::Failure(code)))
+    bare(fields, Command::Answer(Reply::Failure(code)))
 }
 
 // lend LENGTH_U LENGTH_XI, of at most U and XI places

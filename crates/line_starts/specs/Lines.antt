@@ -1,12 +1,12 @@
 -- What a line says: TRANSCRIPT.md, "Calls that start a run" and "Calls that answer". Definitions only.
-use Rattle.std.specs.Prelude.{ℕ, List, [], ◌∷◌, Option, Some, None, option_and_then, nat_lt, if◌then◌else◌}
+use Rattle.std.specs.Prelude.{ℕ, List, [], ◌∷◌, Option, Some, None, nat_lt, if◌then◌else◌}
 use Rattle.std.specs.Float.Ieee.{Float}
 use Rattle.words.specs.Splitting.{words_of}
 use Rattle.keywords.specs.declared.Keyword.{Keyword}
 use Rattle.line_starts.specs.declared.command.Command.{Command}
-use Rattle.line_starts.specs.declared.command.Given.{Given}
 use Rattle.line_starts.specs.declared.command.PsiStart.{PsiStart}
 use Rattle.line_starts.specs.declared.command.Said.{Said}
+use Rattle.panoc_core.specs.declared.panoc_cache.Reply.{Reply}
 use Rattle.line_fields.specs.Fields.{Left, Field, ◌>>=◌, whole_field, code_field, flag_field, float_field, tolerance_field, floats_field, rest_field}
 use Rattle.keywords.specs.Keywords.{keyword_of}
 
@@ -33,26 +33,26 @@ module _ (a b : ℕ) where
   closed (w ∷ s) c = None
 
   -- an answer without a vector
-  abbrev pub answered : Left → Given → Option (Said a b)
+  abbrev pub answered : Left → Reply → Option (Said a b)
   answered s g = closed s (Command.Answer g)
 
   -- number X
   unfoldable pub number_line : Left → Option (Said a b)
   number_line s = do
     (x, s) ← float_field s
-    answered s (Given.Number x)
+    answered s (Reply.Number x)
 
   -- vector X...
   unfoldable pub vector_line : Left → Option (Said a b)
   vector_line s = do
     xs ← rest_field a [] s
-    Some (with_floats (Command.Answer Given.Vector) xs [])
+    Some (with_floats (Command.Answer Reply.Vector) xs [])
 
   -- failure CODE
   unfoldable pub failure_line : Left → Option (Said a b)
   failure_line s = do
     (code, s) ← code_field s
-    answered s (Given.Failure code)
+    answered s (Reply.Failure code)
 
   -- lend LENGTH_U LENGTH_XI
   unfoldable pub lend_line : Left → Option (Said a b)
@@ -79,7 +79,7 @@ module _ (a b : ℕ) where
     (tolerance, s) ← float_field s
     (akkt, s) ← tolerance_field s
     us ← rest_field a [] s
-    Some (with_floats (Command.Inner (record { n = n; m = m; limited = limited; tolerance = tolerance; akkt = akkt })) us [])
+    Some (with_floats (Command.Inner (record { n = n; max_iter = m; limited = limited; tolerance = tolerance; akkt_tolerance = akkt })) us [])
 
   -- loop N N1 N2 Y M K LIMITED TOLERANCE EPSILON DELTA AKKT PENALTY_FACTOR EPSILON_FACTOR COEFFICIENT LENGTH_U U... XI...
   unfoldable pub loop_line : Left → Option (Said a b)
@@ -118,8 +118,8 @@ module _ (a b : ℕ) where
   line_by Keyword.DPsi s = d_psi_line s
   line_by Keyword.Number s = number_line s
   line_by Keyword.Vector s = vector_line s
-  line_by Keyword.Yes s = answered s Given.Yes
-  line_by Keyword.No s = answered s Given.No
+  line_by Keyword.Yes s = answered s Reply.Yes
+  line_by Keyword.No s = answered s Reply.No
   line_by Keyword.Failure s = failure_line s
   line_by Keyword.Lend s = lend_line s
   line_by Keyword.Show s = closed s Command.Show

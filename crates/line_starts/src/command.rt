@@ -1,15 +1,6 @@
 // A line as a command.
 use arrayvec::ArrayVec;
-
-// What an inner solve is started with, less u. A tolerance may be missing.
-#[derive(Clone, Copy, PartialEq, Debug, Drop)]
-pub struct InnerStart {
-    pub n: u64,
-    pub m: u64,
-    pub limited: bool,
-    pub tolerance: f64,
-    pub akkt: Option<f64>,
-}
+use panoc_core::panoc_cache::{Reply, Settings};
 
 // What the loop is started with, less u and xi.
 #[derive(Clone, Copy, PartialEq, Debug, Drop)]
@@ -38,23 +29,14 @@ pub struct PsiStart {
     pub n2: u64,
 }
 
-// An answer; the vector stands beside it. A failure's code is below 2^32.
-#[derive(Clone, Copy, PartialEq, Debug, Drop)]
-pub enum Given {
-    Number(f64),
-    Vector,
-    Yes,
-    No,
-    Failure(u32),
-}
-
+// A start's settings or sizes, less u and xi; an answer, whose vector stands beside it.
 #[derive(Clone, Copy, PartialEq, Debug, Drop)]
 pub enum Command {
-    Inner(InnerStart),
+    Inner(Settings),
     Loop(LoopStart),
     Psi(PsiStart),
     DPsi(PsiStart),
-    Answer(Given),
+    Answer(Reply),
     Lend(usize, usize),
     Show,
 }

@@ -7,23 +7,24 @@ ghost use Rattle.line_starts.specs.Lines.{sizes_field, inner_line, loop_line};
 
 use arrayvec::ArrayVec;
 use line_fields::Fields;
-use line_starts::command::{Command, InnerStart, LoopStart, PsiStart, Said};
+use line_starts::command::{Command, LoopStart, PsiStart, Said};
 use line_starts::lent;
+use panoc_core::panoc_cache::Settings;
 
 // inner N M LIMITED TOLERANCE AKKT U...
 #[tactic(auto, unfolding(line_starts::specs::Lines::inner_line))]
 pub fn inner<const U: usize, const XI: usize>(mut fields: Fields) -> Option<Said<U, XI>>
     ensures { result ≡ inner_line U XI (left fields.entry) }
 {
-    let start = InnerStart {
-        n: fields.whole()?,
-        m: fields.whole()?,
+    let settings = Settings {
+        n: fields.whole()? as usize,
+        max_iter: fields.whole()? as usize,
         limited: fields.flag()?,
         tolerance: fields.float()?,
-        akkt: fields.tolerance()?,
+        akkt_tolerance: fields.tolerance()?,
     };
     Some(Said {
-        command: Command::Inner(start),
+        command: Command::Inner(settings),
         first: fields.rest()?,
         second: ArrayVec::new(),
     })

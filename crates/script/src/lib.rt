@@ -7,8 +7,9 @@ ghost use Rattle.line_starts.specs.Lines.{meant};
 use keywords::{Keyword, begins};
 use line_answers::{bare, failure, lend, number, vector};
 use line_fields::Fields;
-use line_starts::command::{Command, Given, Said};
+use line_starts::command::{Command, Said};
 use line_starts::lent;
+use panoc_core::panoc_cache::Reply;
 use run_lines::{inner, outer, sizes};
 
 // What a line says, None for a line of another form; as many places may be lent of u and of xi as U and XI say.
@@ -30,8 +31,8 @@ pub fn said<const U: usize, const XI: usize>(line: &[u8]) -> Option<Said<U, XI>>
         }
         Keyword::Number => number(fields),
         Keyword::Vector => vector(fields),
-        Keyword::Yes => bare(fields, Command::Answer(Given::Yes)),
-        Keyword::No => bare(fields, Command::Answer(Given::No)),
+        Keyword::Yes => bare(fields, Command::Answer(Reply::Yes)),
+        Keyword::No => bare(fields, Command::Answer(Reply::No)),
         Keyword::Failure => failure(fields),
         Keyword::Lend => lend(fields),
         Keyword::Show => bare(fields, Command::Show),

@@ -1,24 +1,11 @@
 // The calls of the transcript program that answer the open run.
-use line_starts::command::Given;
 use panoc_core::panoc_cache::Reply;
 use transcript_lines::output::Line;
 use transcript_psi::{d_psi_told, psi_told};
 use transcript_state::{Open, Play};
 
-// An answer as the engine takes it.
-fn reply(given: Given) -> Reply {
-    match given {
-        Given::Number(x) => Reply::Number(x),
-        Given::Vector => Reply::Vector,
-        Given::Yes => Reply::Yes,
-        Given::No => Reply::No,
-        Given::Failure(code) => Reply::Failure(code),
-    }
-}
-
 // An answer to the open run, with the places that are lent.
-pub fn answered(play: &mut Play, given: Given, v: &[f64]) -> Line {
-    let a = reply(given);
+pub fn answered(play: &mut Play, a: Reply, v: &[f64]) -> Line {
     match play.open {
         Open::Inner(run) => {
             let r = panoc::panoc_optimizer::answer(run, a, v, play.u.as_mut_slice());

@@ -13,7 +13,7 @@ use transcript_lines::output::{Line, alone};
 use transcript_starts::{d_psi, inner, opened, outer, psi};
 use transcript_state::Play;
 
-// What a line says is done; gives what is printed of it.
+// What a line says is done; gives what is printed of it. Each command has its own data, and so an arm of its own.
 fn turn(play: &mut Play, line: &[u8]) -> Line {
     let Some(said) = heard(line) else {
         return alone(b"bad");
@@ -28,7 +28,7 @@ fn turn(play: &mut Play, line: &[u8]) -> Line {
         Command::Loop(set) => outer(set, u, xi),
         Command::Psi(set) => psi(set, u, xi),
         Command::DPsi(set) => d_psi(set, u, xi),
-        Command::Answer(given) => return answered(play, given, u.as_slice()),
+        Command::Answer(reply) => return answered(play, reply, u.as_slice()),
         Command::Lend(us, xis) => return play.lend(us, xis),
         Command::Show => return play.show(),
     };

@@ -3,9 +3,9 @@
 
 pub mod settings;
 
-use line_starts::command::{InnerStart, LoopStart, PsiStart};
+use line_starts::command::{LoopStart, PsiStart};
 use panoc_core::panoc_cache::Settings;
-use settings::{inner_settings, loop_settings, sizes};
+use settings::{loop_settings, sizes};
 use transcript_lines::output::Line;
 use transcript_psi::{d_psi_told, psi_told};
 use transcript_state::{Lent, Open, Play, resize};
@@ -28,8 +28,8 @@ pub fn opened() -> Play {
 }
 
 // A start of an inner solve, which lends u.
-pub fn inner(set: InnerStart, u: Lent) -> (Play, Line) {
-    let r = panoc_starts::start(inner_settings(set), u.as_slice());
+pub fn inner(set: Settings, u: Lent) -> (Play, Line) {
+    let r = panoc_starts::start(set, u.as_slice());
     let line = transcript_inner::told(&r);
     let open = Open::Inner(r.run);
     (

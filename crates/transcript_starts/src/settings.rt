@@ -1,19 +1,7 @@
 // What a run is started with, as the engine takes it.
 use alm_core::alm_cache::AlmSettings;
 use factory::alm_factory::Sizes;
-use line_starts::command::{InnerStart, LoopStart, PsiStart};
-use panoc_core::panoc_cache::Settings;
-
-// The settings of an inner solve.
-pub fn inner_settings(s: InnerStart) -> Settings {
-    Settings {
-        n: s.n as usize,
-        max_iter: s.m as usize,
-        limited: s.limited,
-        tolerance: s.tolerance,
-        akkt_tolerance: s.akkt,
-    }
-}
+use line_starts::command::{LoopStart, PsiStart};
 
 // The settings of the loop.
 pub fn loop_settings(s: LoopStart) -> AlmSettings {
