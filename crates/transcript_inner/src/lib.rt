@@ -2,27 +2,29 @@
 #![tactic(auto)]
 
 use line_printing::put_floats;
-use panoc_core::panoc_cache::{Answered, Outcome, SolverStatus};
+use panoc_core::panoc_cache::{Answered, SolverStatus};
 use panoc_places::{first_places, second_places};
 use panoc_points::points;
 use transcript_lines::names::{name, then};
-use transcript_lines::output::{Line, asked, ended, failed, refused};
+use transcript_lines::output;
+use transcript_lines::output::{Line, asked, ended};
 
 // What a call gave.
 pub fn told(r: &Answered) -> Line {
     let run = r.run;
-    match r.outcome {
-        Outcome::Asked(question) => asked(
-            name(question),
-            first_places(run.solve),
-            then(question),
-            second_places(run.solve),
-            |p, q| points(run, p, q),
-        ),
-        Outcome::Ended(status) => put_ended(status),
-        Outcome::Refused(number) => refused(number),
-        Outcome::Failed(code) => failed(code),
-    }
+    output::told(
+        r.outcome,
+        |question| {
+            asked(
+                name(question),
+                first_places(run.solve),
+                then(question),
+                second_places(run.solve),
+                |p, q| points(run, p, q),
+            )
+        },
+        put_ended,
+    )
 }
 
 // ended END ITERATIONS NORM COST

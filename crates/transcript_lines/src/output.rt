@@ -4,6 +4,7 @@ ghost use Rattle.std.specs.Prelude.{◌≤◌, length};
 
 use arrayvec::ArrayVec;
 use line_printing::{put_counted, put_point};
+use panoc_core::outcome::{Outcome, Refusal};
 use panoc_core::panoc_cache::ExitStatus;
 
 // A line has at most so many bytes; two lent slices of 128 floats have the most, 4359.
@@ -28,7 +29,7 @@ pub fn put_points(word: &[u8], p: &[f64], then: &[u8], q: &[f64]) -> Line
 }
 
 // A question, with its points, which have so many places; `points` puts them there.
-pub fn asked<P: FnOnce(&mut [f64], &mut [f64]) -> u32>(
+pub fn asked<P: FnOnce(&mut [f64], &mut [f64]) -> Result<(), Refusal>>(
     word: &[u8],
     first: usize,
     then: &[u8],
@@ -42,21 +43,38 @@ pub fn asked<P: FnOnce(&mut [f64], &mut [f64]) -> u32>(
     let mut q = [0.0; 64];
     let n = first.min(64);
     let m = second.min(64);
-    points(&mut p[..n], &mut q[..m]);
+    let _done = points(&mut p[..n], &mut q[..m]);
     put_points(word, &p[..n], then, &q[..m])
 }
 
+// What a call gave; `asked` gives the line of a question, `ended` that of an end.
+pub fn told<Q: Drop, E: Drop, A: FnOnce(Q) -> Line + Drop, T: FnOnce(E) -> Line + Drop>(
+    outcome: Outcome<Q, E>,
+    asked: A,
+    ended: T,
+) -> Line
+    requires question { A.IsAlwaysCallable asked }
+    requires end { T.IsAlwaysCallable ended }
+{
+    match outcome {
+        Outcome::Asked(question) => asked(question),
+        Outcome::Ended(said) => ended(said),
+        Outcome::Refused(refusal) => refused(refusal),
+        Outcome::Failed(code) => failed(code),
+    }
+}
+
 // refused NUMBER
-pub fn refused(number: u32) -> Line
+fn refused(refusal: Refusal) -> Line
     ensures { array_vec_len result ≤ 64 }
 {
     let mut line = Line::new();
-    put_counted(b"refused ", number as u64, &mut line);
+    put_counted(b"refused ", u64::from(refusal.number()), &mut line);
     line
 }
 
 // refused 9 CODE
-pub fn failed(code: u32) -> Line
+fn failed(code: u32) -> Line
     ensures { array_vec_len result ≤ 64 }
 {
     let mut line = Line::new();

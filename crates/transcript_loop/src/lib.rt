@@ -3,12 +3,12 @@
 
 ghost use Rattle.std.specs.Prelude.{◌≤◌, length};
 
-use alm_core::alm_cache::{Alm, AlmAnswered, AlmOptimizerStatus, AlmOutcome, AlmQuestion};
+use alm_core::alm_cache::{Alm, AlmAnswered, AlmOptimizerStatus, AlmQuestion};
 use alm_points::{first_places, points, second_places};
 use line_printing::{put_counted, put_floats};
 use panoc_core::panoc_cache::Question;
-use transcript_lines::names;
-use transcript_lines::output::{Line, asked, ended, failed, refused};
+use transcript_lines::output::{Line, asked, ended};
+use transcript_lines::{names, output};
 
 // How many places the second point of the question has; a run of a start that was accepted has n1 at most 32.
 fn seconds(s: Alm) -> usize {
@@ -18,18 +18,19 @@ fn seconds(s: Alm) -> usize {
 // What a call gave.
 pub fn told(r: &AlmAnswered) -> Line {
     let run = r.run;
-    match r.outcome {
-        AlmOutcome::Asked(question) => asked(
-            name(question),
-            first_places(run.alm),
-            then(question),
-            seconds(run.alm),
-            |p, q| points(run, p, q),
-        ),
-        AlmOutcome::Ended(status) => put_ended(status),
-        AlmOutcome::Refused(number) => refused(number),
-        AlmOutcome::Failed(code) => failed(code),
-    }
+    output::told(
+        r.outcome,
+        |question| {
+            asked(
+                name(question),
+                first_places(run.alm),
+                then(question),
+                seconds(run.alm),
+                |p, q| points(run, p, q),
+            )
+        },
+        put_ended,
+    )
 }
 
 // The word of a question.

@@ -1,47 +1,44 @@
 // What the transcript program prints of a call of psi or of d_psi, whose questions are alike.
 #![tactic(auto)]
 
-use factory::alm_factory::{
-    DPsiAnswered, DPsiOutcome, PsiAnswered, PsiOutcome, PsiQuestion, Sizes,
-};
-use transcript_lines::output::{Line, alone, asked, failed, put_points, refused};
+use factory::alm_factory::{DPsiAnswered, PsiAnswered, PsiQuestion, Sizes};
+use panoc_core::outcome::Refusal;
+use transcript_lines::output::{Line, alone, asked, put_points, told};
 
 // What a call of psi gave; its end has a value.
 pub fn psi_told(r: &PsiAnswered) -> Line {
     let run = r.run;
-    match r.outcome {
-        PsiOutcome::Asked(question) => {
+    told(
+        r.outcome,
+        |question| {
             put_asked(
                 question,
                 run.state.sizes,
                 |p, q| psi_points::points(run, p, q),
             )
-        }
-        PsiOutcome::Ended(value) => put_points(b"ended", &[value], b"", &[]),
-        PsiOutcome::Refused(number) => refused(number),
-        PsiOutcome::Failed(code) => failed(code),
-    }
+        },
+        |value| put_points(b"ended", &[value], b"", &[]),
+    )
 }
 
 // What a call of d_psi gave.
 pub fn d_psi_told(r: &DPsiAnswered) -> Line {
     let run = r.run;
-    match r.outcome {
-        DPsiOutcome::Asked(question) => {
+    told(
+        r.outcome,
+        |question| {
             put_asked(
                 question,
                 run.state.sizes,
                 |p, q| d_psi_points::points(run, p, q),
             )
-        }
-        DPsiOutcome::Ended(_) => alone(b"ended"),
-        DPsiOutcome::Refused(number) => refused(number),
-        DPsiOutcome::Failed(code) => failed(code),
-    }
+        },
+        |()| alone(b"ended"),
+    )
 }
 
 // A question, with the points that `points` gives: PROJECT on C has places of C, the products alone have a second point.
-fn put_asked<P: FnOnce(&mut [f64], &mut [f64]) -> u32>(
+fn put_asked<P: FnOnce(&mut [f64], &mut [f64]) -> Result<(), Refusal>>(
     question: PsiQuestion,
     sizes: Sizes,
     points: P,
