@@ -8,7 +8,7 @@ use alm_points::points;
 use alm_starts::start;
 use panoc_core::panoc_cache::Reply;
 use values::inner_calls::reply_to;
-use values::last_number;
+use values::{last_number, next_reply};
 
 // Settings under which a run goes on for long, with no F1 and one F2.
 fn settings(n: usize) -> AlmSettings {
@@ -33,13 +33,6 @@ fn settings(n: usize) -> AlmSettings {
 fn reply_in_loop(q: AlmQuestion) -> Reply {
     match q {
         AlmQuestion::Inner(asked) => reply_to(asked),
-        _ => Reply::Vector,
-    }
-}
-
-fn next_reply(o: AlmOutcome) -> Reply {
-    match o {
-        AlmOutcome::Asked(q) => reply_in_loop(q),
         _ => Reply::Vector,
     }
 }
@@ -70,8 +63,8 @@ pub extern "C" fn values_loop(
 ) -> u32 {
     let mut last = start(settings(n), w, xi);
     for _ in 0..turns {
-        let next = answer(last.run, next_reply(last.outcome), v, plan, xi);
-        last = answer(next.run, next_reply(next.outcome), w, plan, xi);
+        let next = answer(last.run, next_reply(last.outcome, reply_in_loop), v, plan, xi);
+        last = answer(next.run, next_reply(next.outcome, reply_in_loop), w, plan, xi);
     }
     u32::from(matches!(last.outcome, AlmOutcome::Asked(_)))
 }

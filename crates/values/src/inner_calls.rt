@@ -1,5 +1,5 @@
 // The inner solve by value.
-use crate::last_number;
+use crate::{last_number, next_reply};
 use panoc::panoc_optimizer::answer;
 use panoc_core::panoc_cache::{Outcome, Question, Reply, Settings};
 use panoc_points::points;
@@ -22,13 +22,6 @@ pub fn reply_to(q: Question) -> Reply {
         Question::Cost => Reply::Number(1.0),
         Question::Gradient | Question::Project | Question::Direction(_) => Reply::Vector,
         Question::Time => Reply::Yes,
-    }
-}
-
-fn next_reply(o: Outcome) -> Reply {
-    match o {
-        Outcome::Asked(q) => reply_to(q),
-        _ => Reply::Vector,
     }
 }
 
@@ -56,8 +49,8 @@ pub extern "C" fn values_inner(
 ) -> u32 {
     let mut last = start(settings(n), w);
     for _ in 0..turns {
-        let next = answer(last.run, next_reply(last.outcome), v, plan);
-        last = answer(next.run, next_reply(next.outcome), w, plan);
+        let next = answer(last.run, next_reply(last.outcome, reply_to), v, plan);
+        last = answer(next.run, next_reply(next.outcome, reply_to), w, plan);
     }
     u32::from(matches!(last.outcome, Outcome::Asked(_)))
 }

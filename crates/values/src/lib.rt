@@ -5,13 +5,32 @@ pub mod d_psi_calls;
 pub mod inner_calls;
 pub mod psi_calls;
 
-// The number that the last of so many calls gave; 1 where there are none.
-pub fn last_number<F: FnMut() -> u32>(turns: usize, mut call: F) -> u32
+use panoc_core::outcome::{Outcome, Refusal};
+use panoc_core::panoc_cache::Reply;
+
+// The number of the refusal that the last of so many calls gave, 0 where it gave none; 1 where there are no calls.
+pub fn last_number<F: FnMut() -> Result<(), Refusal>>(turns: usize, mut call: F) -> u32
     requires { F.IsAlwaysCallable call }
 {
-    let mut number = 1;
+    let mut last = Err(Refusal::Sizes);
     for _ in 0..turns {
-        number = call();
+        last = call();
     }
-    number
+    match last {
+        Ok(()) => 0,
+        Err(refusal) => refusal.number(),
+    }
+}
+
+// The answer to what a call gave: a vector where it asks nothing.
+pub fn next_reply<Q: Drop, E: Drop, F: FnOnce(Q) -> Reply + Drop>(
+    outcome: Outcome<Q, E>,
+    reply_to: F,
+) -> Reply
+    requires { F.IsAlwaysCallable reply_to }
+{
+    match outcome {
+        Outcome::Asked(question) => reply_to(question),
+        _ => Reply::Vector,
+    }
 }
