@@ -21,7 +21,7 @@ pub struct Places {
 fn points_of<const N: usize, const M: usize>(run: AlmRun) -> ([f64; N], [f64; M]) {
     let mut first = [0.0; N];
     let mut second = [0.0; M];
-    points(run, &mut first, &mut second);
+    let _done = points(run, &mut first, &mut second);
     (first, second)
 }
 
@@ -103,7 +103,7 @@ fn print_outcome(rt: &impl Print, outcome: AlmOutcome) -> io::Result<()> {
     match outcome {
         AlmOutcome::Asked(_) => Ok(()),
         AlmOutcome::Ended(status) => print_end(rt, status),
-        AlmOutcome::Refused(number) => println!(rt; "refused {number}"),
+        AlmOutcome::Refused(refusal) => println!(rt; "refused {}", refusal.number()),
         AlmOutcome::Failed(_) => println!(rt; "refused 9"),
     }
 }

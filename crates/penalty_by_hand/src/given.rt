@@ -1,6 +1,7 @@
 // An answer as a value, and the answers to the questions of psi and d_psi, some of which the loop asks too.
 use crate::kiln;
 use factory::alm_factory::PsiQuestion;
+use panoc_core::outcome::Refusal;
 use panoc_core::panoc_cache::Reply;
 use shown::Floats;
 use std::io;
@@ -62,7 +63,7 @@ fn said(question: PsiQuestion, u: [f64; 2], d: f64) -> Given {
 }
 
 // The answer to a question, which is printed where it is to be shown; `points` puts its points into as many places as it has.
-pub fn given_to<P: FnOnce(&mut [f64], &mut [f64]) -> u32>(
+pub fn given_to<P: FnOnce(&mut [f64], &mut [f64]) -> Result<(), Refusal>>(
     rt: &impl Print,
     question: PsiQuestion,
     aloud: bool,
@@ -72,7 +73,7 @@ pub fn given_to<P: FnOnce(&mut [f64], &mut [f64]) -> u32>(
 {
     let mut u = [0.0; 2];
     let mut d = [0.0; 1];
-    match question {
+    let _done = match question {
         PsiQuestion::ProjectC => points(&mut d, &mut u[..0]),
         PsiQuestion::Jf1t | PsiQuestion::Jf2t => points(&mut u, &mut d),
         _ => points(&mut u, &mut d[..0]),

@@ -8,7 +8,7 @@ use psi_starts::start;
 use shown::Bits;
 use std::io;
 
-// psi asks at most 4 questions.
+// psi asks at most 4 questions. It is played beside d_psi, which lends its result: one loop for both would take closures for the answer and the end.
 pub fn play(rt: &impl Print, u: [f64; 2], xi: [f64; 2], aloud: bool) -> io::Result<f64> {
     let mut last = start(SIZES, &u, &xi);
     for _ in 0..4 {

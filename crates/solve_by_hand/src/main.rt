@@ -41,7 +41,7 @@ fn given_to(rt: &impl Print, run: Run, question: Question) -> io::Result<(Reply,
     } else {
         0
     };
-    points(run, &mut first, &mut second[..seconds]);
+    let _done = points(run, &mut first, &mut second[..seconds]);
     let at = Floats(&first);
     match question {
         Question::Cost => {
@@ -91,7 +91,7 @@ fn main(rt: HostRuntime) -> io::Result<()> {
         let question = match last.outcome {
             Outcome::Asked(question) => question,
             Outcome::Ended(status) => return print_end(&rt, status, plan),
-            Outcome::Refused(number) => return println!(rt; "refused {number}"),
+            Outcome::Refused(refusal) => return println!(rt; "refused {}", refusal.number()),
             Outcome::Failed(_) => return println!(rt; "refused 9"),
         };
         let (reply, v) = given_to(&rt, last.run, question)?;
