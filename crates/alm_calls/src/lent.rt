@@ -20,9 +20,9 @@ pub fn fill_xi(penalty: f64, y: &[f64; 64], xi: &mut [f64])
     requires { length xi.old ≤ 33 }
     ensures { xi.new ≡ xi_given penalty y.now xi.old }
 {
-    if let Some((first, rest)) = xi.split_first_mut() {
-        *first = penalty;
-        vector_copies::give(y, rest);
+    if !xi.is_empty() {
+        xi[0] = penalty;
+        vector_copies::give(y, &mut xi[1..]);
     }
 }
 
