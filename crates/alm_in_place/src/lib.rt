@@ -1,4 +1,4 @@
-// The answer to a run of the multiplier loop, in place.
+// The answer to a run of the multiplier loop, in place: its vectors are lent one by one, since C lends each as an array of its own.
 #![tactic(auto)]
 
 ghost use Rattle.panoc_core.specs.Told.{told};

@@ -1,4 +1,4 @@
-// The points of the question that a run of the loop waits with.
+// The points of the question that a run of the loop waits with. The vectors are lent one by one, since C lends each as an array of its own.
 #![tactic(auto)]
 
 ghost use Rattle.std.specs.Prelude.{◌≡◌, ◌≤◌};

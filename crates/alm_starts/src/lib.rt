@@ -1,4 +1,4 @@
-// The start of the multiplier loop: its tests, and the run before its first outer iteration.
+// The start of the multiplier loop: its tests, and the run before its first outer iteration. The arrays are lent one by one, as C lends them.
 #![tactic(auto)]
 
 ghost use Rattle.std.specs.Prelude.{◌≡◌};

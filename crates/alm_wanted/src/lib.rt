@@ -1,4 +1,4 @@
-// What a run of the loop waits for.
+// What a run of the loop waits for, read off its record; alm_waiting reads the same off lent numbers, of which it takes only those that it needs.
 #![tactic(auto)]
 
 ghost use Rattle.std.specs.Prelude.{◌≡◌};
