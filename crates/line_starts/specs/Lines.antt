@@ -4,14 +4,14 @@ use Rattle.std.specs.Float.Ieee.{Float}
 use Rattle.words.specs.Splitting.{words_of}
 use Rattle.keywords.specs.declared.Keyword.{Keyword}
 use Rattle.line_starts.specs.declared.command.Command.{Command}
-use Rattle.line_starts.specs.declared.command.PsiStart.{PsiStart}
 use Rattle.line_starts.specs.declared.command.Said.{Said}
 use Rattle.panoc_core.specs.declared.panoc_cache.Reply.{Reply}
+use Rattle.factory.specs.declared.alm_factory.Sizes.{Sizes}
 use Rattle.line_fields.specs.Fields.{Left, Field, ◌>>=◌, whole_field, code_field, flag_field, float_field, tolerance_field, floats_field, rest_field}
 use Rattle.keywords.specs.Keywords.{keyword_of}
 
 -- N N1 N2
-unfoldable pub sizes_field : Left → Field PsiStart
+unfoldable pub sizes_field : Left → Field Sizes
 sizes_field s = do
   (n, s) ← whole_field s
   (n1, s) ← whole_field s
@@ -96,7 +96,22 @@ module _ (a b : ℕ) where
     (penalty, s) ← float_field s
     (factor, s) ← float_field s
     (coefficient, s) ← float_field s
-    let c : Command = Command.Loop (record { n = sizes.n; n1 = sizes.n1; n2 = sizes.n2; y = y; m = m; k = k; limited = limited; tolerance = tolerance; epsilon = epsilon; delta = delta; akkt = akkt; penalty = penalty; factor = factor; coefficient = coefficient })
+    let c : Command = Command.Loop (record {
+      n = sizes.n;
+      n1 = sizes.n1;
+      n2 = sizes.n2;
+      has_set_y = y;
+      max_inner_iterations = m;
+      max_outer_iterations = k;
+      limited = limited;
+      tolerance = tolerance;
+      epsilon_tolerance = epsilon;
+      delta_tolerance = delta;
+      initial_inner_tolerance = akkt;
+      penalty_update_factor = penalty;
+      epsilon_update_factor = factor;
+      sufficient_decrease_coeff = coefficient;
+    })
     lent_line c s
 
   -- psi N N1 N2 LENGTH_U U... XI..., and d_psi

@@ -1,41 +1,16 @@
 // A line as a command.
+use alm_core::alm_cache::AlmSettings;
 use arrayvec::ArrayVec;
+use factory::alm_factory::Sizes;
 use panoc_core::panoc_cache::{Reply, Settings};
-
-// What the loop is started with, less u and xi.
-#[derive(Clone, Copy, PartialEq, Debug, Drop)]
-pub struct LoopStart {
-    pub n: u64,
-    pub n1: u64,
-    pub n2: u64,
-    pub y: bool,
-    pub m: u64,
-    pub k: u64,
-    pub limited: bool,
-    pub tolerance: f64,
-    pub epsilon: f64,
-    pub delta: f64,
-    pub akkt: f64,
-    pub penalty: f64,
-    pub factor: f64,
-    pub coefficient: f64,
-}
-
-// What psi and d_psi are started with, less u and xi.
-#[derive(Clone, Copy, PartialEq, Eq, Debug, Drop)]
-pub struct PsiStart {
-    pub n: u64,
-    pub n1: u64,
-    pub n2: u64,
-}
 
 // A start's settings or sizes, less u and xi; an answer, whose vector stands beside it.
 #[derive(Clone, Copy, PartialEq, Debug, Drop)]
 pub enum Command {
     Inner(Settings),
-    Loop(LoopStart),
-    Psi(PsiStart),
-    DPsi(PsiStart),
+    Loop(AlmSettings),
+    Psi(Sizes),
+    DPsi(Sizes),
     Answer(Reply),
     Lend(usize, usize),
     Show,

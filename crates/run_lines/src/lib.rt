@@ -5,9 +5,11 @@ ghost use Rattle.std.specs.Prelude.{◌≡◌, option_map};
 ghost use Rattle.line_fields.specs.Left.{left};
 ghost use Rattle.line_starts.specs.Lines.{sizes_field, inner_line, loop_line};
 
+use alm_core::alm_cache::AlmSettings;
 use arrayvec::ArrayVec;
+use factory::alm_factory::Sizes;
 use line_fields::Fields;
-use line_starts::command::{Command, LoopStart, PsiStart, Said};
+use line_starts::command::{Command, Said};
 use line_starts::lent;
 use panoc_core::panoc_cache::Settings;
 
@@ -32,15 +34,15 @@ pub fn inner<const U: usize, const XI: usize>(mut fields: Fields) -> Option<Said
 
 // N N1 N2, and the fields behind them.
 #[tactic(auto, unfolding(line_starts::specs::Lines::sizes_field))]
-pub fn sizes(mut fields: Fields) -> Option<(PsiStart, Fields)>
+pub fn sizes(mut fields: Fields) -> Option<(Sizes, Fields)>
     ensures { option_map (λ r. (r.0, left r.1)) result ≡ sizes_field (left fields.entry) }
 {
-    let start = PsiStart {
-        n: fields.whole()?,
-        n1: fields.whole()?,
-        n2: fields.whole()?,
+    let sizes = Sizes {
+        n: fields.whole()? as usize,
+        n1: fields.whole()? as usize,
+        n2: fields.whole()? as usize,
     };
-    Some((start, fields))
+    Some((sizes, fields))
 }
 
 // loop N N1 N2 Y M K LIMITED TOLERANCE EPSILON DELTA AKKT PENALTY_FACTOR EPSILON_FACTOR COEFFICIENT LENGTH_U U... XI...
@@ -49,21 +51,21 @@ pub fn outer<const U: usize, const XI: usize>(fields: Fields) -> Option<Said<U, 
     ensures { result ≡ loop_line U XI (left fields.entry) }
 {
     let (sizes, mut fields) = sizes(fields)?;
-    let start = LoopStart {
+    let settings = AlmSettings {
         n: sizes.n,
         n1: sizes.n1,
         n2: sizes.n2,
-        y: fields.flag()?,
-        m: fields.whole()?,
-        k: fields.whole()?,
+        has_set_y: fields.flag()?,
+        max_inner_iterations: fields.whole()? as usize,
+        max_outer_iterations: fields.whole()? as usize,
         limited: fields.flag()?,
         tolerance: fields.float()?,
-        epsilon: fields.float()?,
-        delta: fields.float()?,
-        akkt: fields.float()?,
-        penalty: fields.float()?,
-        factor: fields.float()?,
-        coefficient: fields.float()?,
+        epsilon_tolerance: fields.float()?,
+        delta_tolerance: fields.float()?,
+        initial_inner_tolerance: fields.float()?,
+        penalty_update_factor: fields.float()?,
+        epsilon_update_factor: fields.float()?,
+        sufficient_decrease_coeff: fields.float()?,
     };
-    lent(fields, Command::Loop(start))
+    lent(fields, Command::Loop(settings))
 }

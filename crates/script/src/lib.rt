@@ -22,12 +22,12 @@ pub fn said<const U: usize, const XI: usize>(line: &[u8]) -> Option<Said<U, XI>>
         Keyword::Inner => inner(fields),
         Keyword::Loop => outer(fields),
         Keyword::Psi => {
-            let (start, fields) = sizes(fields)?;
-            lent(fields, Command::Psi(start))
+            let (sizes, fields) = sizes(fields)?;
+            lent(fields, Command::Psi(sizes))
         }
         Keyword::DPsi => {
-            let (start, fields) = sizes(fields)?;
-            lent(fields, Command::DPsi(start))
+            let (sizes, fields) = sizes(fields)?;
+            lent(fields, Command::DPsi(sizes))
         }
         Keyword::Number => number(fields),
         Keyword::Vector => vector(fields),

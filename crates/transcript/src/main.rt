@@ -26,8 +26,8 @@ fn turn(play: &mut Play, line: &[u8]) -> Line {
     let (next, told) = match command {
         Command::Inner(set) => inner(set, u),
         Command::Loop(set) => outer(set, u, xi),
-        Command::Psi(set) => psi(set, u, xi),
-        Command::DPsi(set) => d_psi(set, u, xi),
+        Command::Psi(sizes) => psi(sizes, u, xi),
+        Command::DPsi(sizes) => d_psi(sizes, u, xi),
         Command::Answer(reply) => return answered(play, reply, u.as_slice()),
         Command::Lend(us, xis) => return play.lend(us, xis),
         Command::Show => return play.show(),

@@ -1,11 +1,9 @@
 // The calls of the transcript program that start a run: each gives what is open from then on, and what is printed.
 #![tactic(auto)]
 
-pub mod settings;
-
-use line_starts::command::{LoopStart, PsiStart};
+use alm_core::alm_cache::AlmSettings;
+use factory::alm_factory::Sizes;
 use panoc_core::panoc_cache::Settings;
-use settings::{loop_settings, sizes};
 use transcript_lines::output::Line;
 use transcript_psi::{d_psi_told, psi_told};
 use transcript_state::{Lent, Open, Play, resize};
@@ -43,24 +41,23 @@ pub fn inner(set: Settings, u: Lent) -> (Play, Line) {
 }
 
 // A start of a loop, which lends u and xi.
-pub fn outer(set: LoopStart, u: Lent, xi: Lent) -> (Play, Line) {
-    let r = alm_starts::start(loop_settings(set), u.as_slice(), xi.as_slice());
+pub fn outer(set: AlmSettings, u: Lent, xi: Lent) -> (Play, Line) {
+    let r = alm_starts::start(set, u.as_slice(), xi.as_slice());
     let line = transcript_loop::told(&r);
     let open = Open::Loop(r.run);
     (Play { open, u, xi }, line)
 }
 
 // A start of psi, which lends nothing; show prints the u and xi of its line.
-pub fn psi(set: PsiStart, u: Lent, xi: Lent) -> (Play, Line) {
-    let r = psi_starts::start(sizes(set), u.as_slice(), xi.as_slice());
+pub fn psi(sizes: Sizes, u: Lent, xi: Lent) -> (Play, Line) {
+    let r = psi_starts::start(sizes, u.as_slice(), xi.as_slice());
     let line = psi_told(&r);
     let open = Open::Psi(r.run);
     (Play { open, u, xi }, line)
 }
 
 // A start of d_psi, which lends a result of n zeros.
-pub fn d_psi(set: PsiStart, u: Lent, xi: Lent) -> (Play, Line) {
-    let sizes = sizes(set);
+pub fn d_psi(sizes: Sizes, u: Lent, xi: Lent) -> (Play, Line) {
     let r = d_psi_starts::start(sizes, u.as_slice(), xi.as_slice());
     let line = d_psi_told(&r);
     let open = Open::DPsi(r.run);
