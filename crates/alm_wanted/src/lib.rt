@@ -1,10 +1,11 @@
-// What a run of the loop waits for, read off its record; alm_waiting reads the same off lent numbers, of which it takes only those that it needs.
+// What a run of the loop waits for, read off its record; alm_waiting reads the same off lent numbers, by the same functions of the numbers.
 #![tactic(auto)]
 
-ghost use Rattle.std.specs.Prelude.{◌≡◌};
+ghost use Rattle.std.specs.Prelude.{◌≡◌, eqb};
 ghost use Rattle.panoc_core.specs.Values.{kind_of};
 ghost use Rattle.alm_core.specs.Rest.{sized, counts, sound};
-ghost use Rattle.alm_calls.specs.LoopCalls.{wanted_of};
+ghost use Rattle.alm_core.specs.declared.alm_cache.AlmPhase.TheVariants as P;
+ghost use Rattle.alm_calls.specs.LoopCalls.{wanted_at, wanted_of};
 ghost use Rattle.panoc_core.specs.Board.{waiting};
 
 use alm_core::alm_cache::{Alm, AlmPhase};
@@ -13,22 +14,22 @@ use panoc_wanted::waits;
 
 // Sizes as document 01 has them.
 #[tactic(auto, unfolding(alm_core::specs::Rest::sized))]
-pub fn is_sized(s: Alm) -> bool
-    ensures { result ≡ sized s }
+pub fn is_sized(n: usize, n1: usize, n2: usize, max_inner: usize) -> bool
+    ensures { (s : Alm) → s.set.n ≡ n → s.set.n1 ≡ n1 → s.set.n2 ≡ n2 → s.set.max_inner_iterations ≡ max_inner → result ≡ sized s }
 {
-    s.set.n <= 64 && s.set.n1 <= 32 && s.set.n2 <= 32 && s.set.max_inner_iterations <= 10000
+    n <= 64 && n1 <= 32 && n2 <= 32 && max_inner <= 10000
 }
 
 // Counters in range, and an inner run of the same n.
 #[tactic(auto, unfolding(alm_core::specs::Rest::counts))]
-pub fn is_counted(s: Alm) -> bool
-    ensures { result ≡ counts s }
+pub fn is_counted(left: usize, outer: usize, inner: usize, found: usize, same: bool) -> bool
+    ensures { (s : Alm) → s.left ≡ left → s.outer.0 ≡ outer → s.inner.0 ≡ inner → s.found.0 ≡ found → eqb s.solve.set.n s.set.n ≡ same → result ≡ counts s }
 {
-    s.left <= 999
-        && s.outer.0 <= 999 - s.left
-        && s.inner.0 <= 10000 * s.outer.0
-        && s.found.0 <= 10000
-        && s.solve.set.n == s.set.n
+    left <= 999
+        && outer <= 999 - left
+        && inner <= 10000 * outer
+        && found <= 10000
+        && same
 }
 
 // A run that no start made counts as one that has ended.
@@ -36,7 +37,25 @@ pub fn is_counted(s: Alm) -> bool
 pub fn is_sound(s: Alm) -> bool
     ensures { result ≡ sound s }
 {
-    is_sized(s) && (matches!(s.phase, AlmPhase::LastCost) || is_counted(s))
+    let set = s.set;
+    let same = s.solve.set.n == set.n;
+    is_sized(set.n, set.n1, set.n2, set.max_inner_iterations)
+        && (matches!(s.phase, AlmPhase::LastCost)
+            || is_counted(s.left, s.outer.0, s.inner.0, s.found.0, same))
+}
+
+// What a run that waits with a question of the loop itself waits for.
+pub fn wants_own(phase: AlmPhase, n1: usize, n2: usize) -> Option<Wanted>
+    requires { phase ≡ P.Inner → ⊥ }
+    ensures { (s : Alm) → s.set.n1 ≡ n1 → s.set.n2 ≡ n2 → kind_of result ≡ wanted_at s phase }
+{
+    match phase {
+        AlmPhase::Time => Some(Wanted::Decision),
+        AlmPhase::ProjectY | AlmPhase::F1 | AlmPhase::ProjectC => Some(Wanted::Vector(n1)),
+        AlmPhase::F2 => Some(Wanted::Vector(n2)),
+        AlmPhase::LastCost => Some(Wanted::Number),
+        AlmPhase::Inner | AlmPhase::Over => None,
+    }
 }
 
 // What the run waits for.
@@ -48,12 +67,8 @@ pub fn wants(s: Alm) -> Option<Wanted>
         return None;
     }
     match s.phase {
-        AlmPhase::Time => Some(Wanted::Decision),
-        AlmPhase::ProjectY | AlmPhase::F1 | AlmPhase::ProjectC => Some(Wanted::Vector(s.set.n1)),
         AlmPhase::Inner => panoc_wanted::wants(s.solve),
-        AlmPhase::F2 => Some(Wanted::Vector(s.set.n2)),
-        AlmPhase::LastCost => Some(Wanted::Number),
-        AlmPhase::Over => None,
+        phase => wants_own(phase, s.set.n1, s.set.n2),
     }
 }
 

@@ -1,3 +1,4 @@
+use Rattle.panoc_core.specs.Told.{told}
 use Rattle.std.proofs.Common.{[]}
 use Rattle.lent_loop.specs.Laws.{own_may, own_takes, short, short_xi, settles, blank}
 use Rattle.alm_image.specs.AlmImage.{alm_of}
@@ -15,4 +16,4 @@ pub finish-requires : goal.finish-requires
 finish-requires c = (short (alm_of c.args.w.now c.args.k.now c.args.f.now c.args.lw.now c.args.lk.now c.args.lf.now) (Number c.args.x) [] c.args.plan.now c.args.xi.now c.requires.0, short_xi (alm_of c.args.w.now c.args.k.now c.args.f.now c.args.lw.now c.args.lk.now c.args.lf.now) (Number c.args.x) [] c.args.plan.now c.args.xi.now c.requires.0, sym (own_takes (alm_of c.args.w.now c.args.k.now c.args.f.now c.args.lw.now c.args.lk.now c.args.lf.now) (Number c.args.x) [] c.args.plan.now c.args.xi.now c.requires.0 _ c.alm_of-s.ensures _ _ _ (c.on_last_cost-o.ensures blank)).settings)
 
 pub returns : goal.returns
-returns c = λ b. settles (alm_of c.args.w.now c.args.k.now c.args.f.now c.args.lw.now c.args.lk.now c.args.lf.now) (Number c.args.x) [] c.args.plan.now c.args.xi.now c.requires.0 _ _ c.on_last_cost-o.result _ _ _ (own_takes (alm_of c.args.w.now c.args.k.now c.args.f.now c.args.lw.now c.args.lk.now c.args.lf.now) (Number c.args.x) [] c.args.plan.now c.args.xi.now c.requires.0 _ c.alm_of-s.ensures _ _ _ (c.on_last_cost-o.ensures (set_u c.args.u.now (set_y_plus c.args.plus.now b)))) c.finish.ensures
+returns c = λ b. settles (alm_of c.args.w.now c.args.k.now c.args.f.now c.args.lw.now c.args.lk.now c.args.lf.now) (Number c.args.x) [] c.args.plan.now c.args.xi.now c.requires.0 _ _ (told c.on_last_cost-o.result) _ _ _ (own_takes (alm_of c.args.w.now c.args.k.now c.args.f.now c.args.lw.now c.args.lk.now c.args.lf.now) (Number c.args.x) [] c.args.plan.now c.args.xi.now c.requires.0 _ c.alm_of-s.ensures _ _ _ (c.on_last_cost-o.ensures (set_u c.args.u.now (set_y_plus c.args.plus.now b)))) c.finish.ensures
