@@ -13,5 +13,5 @@ returns-in-Some c = exported_as _ _ _ _ _ _ _ _ _ _ _ c.if-kind-gt4.false c.repl
 pub answer_accepted-requires : goal.answer_accepted-requires
 answer_accepted-requires c = accepted_as c.reply_of-a.result c.args.v.now c.args.plan.now c.args.xi.now c.args.w.now c.args.k.now c.args.f.now c.args.lw.now c.args.lk.now c.args.lf.now c.wants-wanted.result c.wants-wanted.ensures c.fits-fits.result _ c.fits-fits.ensures c.in-None.ensures refl
 
-pub returns : goal.returns
-returns c = exported_as _ _ _ _ _ _ _ _ _ _ _ c.if-kind-gt4.false c.reply_of-a.ensures c.answer_accepted.ensures
+pub returns-in-None : goal.returns-in-None
+returns-in-None c = exported_as _ _ _ _ _ _ _ _ _ _ _ c.if-kind-gt4.false c.reply_of-a.ensures c.answer_accepted.ensures

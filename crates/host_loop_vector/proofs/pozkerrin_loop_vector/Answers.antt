@@ -10,5 +10,5 @@ returns-in-Some c = refused_as Vector c.args.v.now c.args.plan.now c.args.xi.now
 pub answer_accepted-requires : goal.answer_accepted-requires
 answer_accepted-requires c = accepted_as Vector c.args.v.now c.args.plan.now c.args.xi.now c.args.w.now c.args.k.now c.args.f.now c.args.lw.now c.args.lk.now c.args.lf.now c.wants-wanted.result c.wants-wanted.ensures c.fits-fits.result _ c.fits-fits.ensures c.in-None.ensures refl
 
-pub returns : goal.returns
-returns c = c.answer_accepted.ensures
+pub returns-in-None : goal.returns-in-None
+returns-in-None c = c.answer_accepted.ensures
