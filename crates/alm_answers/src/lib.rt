@@ -1,5 +1,5 @@
-// Which handler of the loop takes an answer: one of the inner solve, by its own dispatch, or one of the loop. Each arm lends its handler the vectors that
-// it works on: C lends each vector as an array of its own, and of a struct of references the proof of what a call writes into its own arguments did not close.
+// Which handler of the loop takes an answer: one of the inner solve, by its own dispatch, or one of the loop. Each arm lends its
+// handler the vectors that it works on. The vectors are lent one by one, as C lends them.
 #![tactic(auto)]
 
 ghost use Rattle.std.specs.Prelude.{◌≡◌, true, length};

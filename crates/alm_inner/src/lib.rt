@@ -1,5 +1,5 @@
-// What the inner solve has come to, carried out by the loop. The vectors are lent one by one: C lends each as an array of its own, and of a struct of
-// references the proof of what a call writes into its own arguments did not close.
+// What the inner solve has come to, carried out by the loop.
+// The vectors are lent one by one, as C lends them, and a handler takes those that it needs: the others stay as they were.
 #![tactic(auto)]
 
 ghost use Rattle.std.specs.Prelude.{◌≡◌, ◌≤◌};

@@ -1,7 +1,6 @@
 // The weighing of an outer iteration, and what is asked before it. `ask_f2` and `ask_f1` are alike, but leave out another mapping and go on to
 // another function: one function for both would take the size, the phase, the question, the numbers without it and what follows.
-// The vectors are lent one by one: C lends each as an array of its own, and of a struct of references the proof of what a call writes into its own
-// arguments did not close.
+// The vectors are lent one by one, as C lends them, and a handler takes those that it needs: the others stay as they were.
 #![tactic(auto)]
 
 ghost use Rattle.std.specs.Float.{binary64};
