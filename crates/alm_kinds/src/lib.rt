@@ -1,4 +1,4 @@
-// The loop's enums as numbers. Any number is read.
+// The loop's enums as numbers, since C has them so. Any number is read. Functions and no From, as in image::kinds.
 #![tactic(auto)]
 
 ghost use Rattle.std.specs.Prelude.{◌≡◌};

@@ -25,11 +25,7 @@ pub fn is_sized(n: usize, n1: usize, n2: usize, max_inner: usize) -> bool
 pub fn is_counted(left: usize, outer: usize, inner: usize, found: usize, same: bool) -> bool
     ensures { (s : Alm) → s.left ≡ left → s.outer.0 ≡ outer → s.inner.0 ≡ inner → s.found.0 ≡ found → eqb s.solve.set.n s.set.n ≡ same → result ≡ counts s }
 {
-    left <= 999
-        && outer <= 999 - left
-        && inner <= 10000 * outer
-        && found <= 10000
-        && same
+    left <= 999 && outer <= 999 - left && inner <= 10000 * outer && found <= 10000 && same
 }
 
 // A run that no start made counts as one that has ended.
@@ -44,7 +40,7 @@ pub fn is_sound(s: Alm) -> bool
             || is_counted(s.left, s.outer.0, s.inner.0, s.found.0, same))
 }
 
-// What a run that waits with a question of the loop itself waits for.
+// What a run that waits with a question of the loop itself waits for: one match over the enum, plainer than a table.
 pub fn wants_own(phase: AlmPhase, n1: usize, n2: usize) -> Option<Wanted>
     requires { phase ≡ P.Inner → ⊥ }
     ensures { (s : Alm) → s.set.n1 ≡ n1 → s.set.n2 ≡ n2 → kind_of result ≡ wanted_at s phase }

@@ -46,7 +46,7 @@ pub extern "C" fn pozkerrin_inner_points<'a>(
 }
 
 // The vector that holds the first point of a phase's question: 0 u, 1 the candidate, 2 the gradient step, 3 the half step, 4 the residual,
-// 5 the best half step.
+// 5 the best half step. A number, since C reads it.
 pub fn place_of(phase: Phase) -> u32
     ensures { result ≡ place_of phase }
 {

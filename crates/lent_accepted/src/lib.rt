@@ -1,4 +1,5 @@
 // An answer of any kind to a lent loop that nothing refuses.
+// The result is the kind that the call for C returns.
 #![tactic(auto)]
 
 ghost use Rattle.alm_calls.specs.LoopCalls.{Answers, before, after, run_of, gave};

@@ -18,6 +18,7 @@ use lent_places::finish;
 use panoc_core::panoc_cache::{Outcome, Stepped};
 
 // What the inner solve gave, o, is carried out: it asks on, or the loop goes on from its end.
+// The result is the kind that the call for C returns.
 pub fn carry(
     o: Outcome,
     w: &mut [u32; 6],

@@ -1,4 +1,5 @@
 // An answer to a question of the loop itself on lent numbers that nothing refuses.
+// The result is the kind that the call for C returns.
 #![tactic(auto)]
 
 ghost use Rattle.std.specs.Prelude.{◌≡◌, [], get_or};

@@ -21,7 +21,7 @@ pub fn fits(lk: &[usize; 10], us: usize, places: usize) -> bool
     us == lk[N] && xi_fits(lk[N1], lk[N2], places)
 }
 
-// What a step of the loop gave: the lent places of an end, and all numbers.
+// What a step of the loop gave: the lent places of an end, and all numbers. The result is the kind that the call for C returns.
 pub fn finish(
     o: AlmStepped,
     w: &mut [u32; 6],

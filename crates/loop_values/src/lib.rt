@@ -63,8 +63,20 @@ pub extern "C" fn values_loop(
 ) -> u32 {
     let mut last = start(settings(n), w, xi);
     for _ in 0..turns {
-        let next = answer(last.run, next_reply(last.outcome, reply_in_loop), v, plan, xi);
-        last = answer(next.run, next_reply(next.outcome, reply_in_loop), w, plan, xi);
+        let next = answer(
+            last.run,
+            next_reply(last.outcome, reply_in_loop),
+            v,
+            plan,
+            xi,
+        );
+        last = answer(
+            next.run,
+            next_reply(next.outcome, reply_in_loop),
+            w,
+            plan,
+            xi,
+        );
     }
     u32::from(matches!(last.outcome, AlmOutcome::Asked(_)))
 }

@@ -1,4 +1,4 @@
-// An answer to a lent run, by the kind of reply and then by the phase.
+// An answer to a lent run, by the kind of reply and then by the phase: each arm is another handler with other vectors, so a table is no plainer.
 ghost use Rattle.std.specs.Prelude.{◌≡◌, true, [], length, get_or};
 ghost use Rattle.std.proofs.Math.Option.{some};
 ghost use Rattle.model.specs.Process.{Kind};

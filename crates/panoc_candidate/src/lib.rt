@@ -12,8 +12,8 @@ ghost use Rattle.panoc_core.specs.Board.{Board, Sound, Comes, set_of, end_of, ne
 ghost use Rattle.image.specs.Image.{solve_of, step_of};
 
 use image::places::N;
-use panoc_steps::onward;
 use panoc_core::panoc_cache::Outcome;
+use panoc_steps::onward;
 
 // The candidate is taken: it becomes u, and its residual, of this norm squared and product with the gradient, is stored.
 pub fn take_candidate(

@@ -13,9 +13,7 @@ use image::kinds::status_of;
 use image::places::{DONE, LEAST, STATUS};
 use image_moves::{end, stop};
 use panoc_core::outcome::Refusal;
-use panoc_core::panoc_cache::{
-    ExitStatus, InnerIterations, Outcome, Phase, Reply, SolverStatus,
-};
+use panoc_core::panoc_cache::{ExitStatus, InnerIterations, Outcome, Phase, Reply, SolverStatus};
 
 // The end that stands for a step after which left more may begin.
 pub fn standing(left: usize, in_time: bool) -> ExitStatus

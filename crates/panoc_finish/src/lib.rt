@@ -17,7 +17,7 @@ use image_puts::put_norms;
 use panoc_core::outcome::Refusal;
 use panoc_core::panoc_cache::{Outcome, Phase, Question, cache_best_half_step};
 
-// step.
+// After the last step: its score, and the last COST; refused where u is not finite.
 pub fn finish(
     norm: f64,
     w: &mut [u32; 6],

@@ -46,7 +46,7 @@ pub fn on_first_cost(x: f64, w: &mut [u32; 6], k: &[usize; 6], f: &mut [f64; 13]
     ask(Phase::FirstGradient, Question::Gradient, w)
 }
 
-// GRADIENT at the first iterate is v.
+// GRADIENT at the first iterate is v. As panoc_search::on_tried_gradient, but of u, with another phase and refusal, and so another law of its phase.
 pub fn on_first_gradient(
     v: &[f64],
     w: &mut [u32; 6],

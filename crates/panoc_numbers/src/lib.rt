@@ -1,4 +1,4 @@
-// A number that was asked for, by the phase of a lent run.
+// A number that was asked for, by the phase of a lent run: each arm is another handler, so a table is no plainer.
 #![tactic(auto)]
 
 ghost use Rattle.std.specs.Prelude.{◌≡◌, []};

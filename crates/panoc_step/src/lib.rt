@@ -9,7 +9,9 @@ use image::places::{COST, DONE, GAMMA, LEAST, N, TAU};
 use image_moves::ask;
 use image_puts::{put_norms, put_search};
 use panoc_core::lipschitz_estimator::lipschitz_check_rhs;
-use panoc_core::panoc_cache::{Outcome, Phase, Question, cache_best_half_step, cache_previous_gradient};
+use panoc_core::panoc_cache::{
+    Outcome, Phase, Question, cache_best_half_step, cache_previous_gradient,
+};
 use panoc_finish::{exit_condition, finish};
 
 // A step, from the residual with its norm and its product with the gradient: the previous gradient, the score, and the tests. What the

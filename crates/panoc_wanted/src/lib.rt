@@ -20,7 +20,7 @@ pub fn in_range(n: usize, max_iter: usize, left: usize, done: usize) -> bool
     n <= 64 && max_iter <= 10000 && left <= 10000 && done <= 10000 - left
 }
 
-// What a run in range waits for at a phase.
+// What a run in range waits for at a phase: one match over the enum, plainer than a table.
 pub fn wants_at(n: usize, phase: Phase) -> Option<Wanted>
     ensures { kind_of result ≡ wanted_at n phase }
 {
