@@ -1,6 +1,6 @@
 // The inner solve: an answer of any kind.
 ghost use Rattle.panoc_core.specs.Board.{before, after, run_of, gave};
-ghost use Rattle.image.specs.Image.{solve_of, step_of};
+ghost use Rattle.image.specs.Image.{solve_of, told_of};
 ghost use Rattle.host.specs.Exports.{Exported};
 
 // An answer to the question of a run; a plan goes into the lent slice.
@@ -24,7 +24,7 @@ pub extern "C" fn pozkerrin_inner_answer(
     direction: &mut [f64; 64],
     best: &mut [f64; 64],
 ) -> u32
-    ensures { Exported kind x code v.now plan.old plan.new (run_of (solve_of w.old k.old f.old) (before u plus gradient previous step half fpr direction best)) (gave (step_of result w.new k.new f.new) (after u plus gradient previous step half fpr direction best)) }
+    ensures { Exported kind x code v.now plan.old plan.new (run_of (solve_of w.old k.old f.old) (before u plus gradient previous step half fpr direction best)) (gave (told_of result w.new k.new f.new) (after u plus gradient previous step half fpr direction best)) }
 {
     host::inner::pozkerrin_inner_answer(
         w, k, f, kind, x, code, v, plan, u, plus, gradient, previous, step, half, fpr, direction,

@@ -1,6 +1,6 @@
 // The start of an inner solve for C.
 ghost use Rattle.panoc_core.specs.Board.{Board, Begins, set_u};
-ghost use Rattle.image.specs.Image.{settings_given, step_of};
+ghost use Rattle.image.specs.Image.{settings_given, told_of};
 
 // A run that is begun at the lent slice, or its refusal.
 #[unsafe(no_mangle)]
@@ -17,7 +17,7 @@ pub extern "C" fn pozkerrin_inner_start(
     at: &[f64],
     u: &mut [f64; 64],
 ) -> u32
-    ensures { (b : Board) → Begins (settings_given n max_iter limited tolerance has_akkt akkt_tolerance) at.now (step_of result w.new k.new f.new) (set_u u.new b) }
+    ensures { (b : Board) → Begins (settings_given n max_iter limited tolerance has_akkt akkt_tolerance) at.now (told_of result w.new k.new f.new) (set_u u.new b) }
 {
     host_start::pozkerrin_inner_start(
         w,

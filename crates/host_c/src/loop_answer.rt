@@ -1,6 +1,6 @@
 // An answer of any kind to the multiplier loop for C, as the crate host has it for the inner solve; host_loop_number and host_loop_vector are the quick ways.
 ghost use Rattle.alm_calls.specs.LoopCalls.{before, after, run_of, gave};
-ghost use Rattle.alm_image.specs.AlmImage.{alm_of, step_of};
+ghost use Rattle.alm_image.specs.AlmImage.{alm_of, told_of};
 ghost use Rattle.host_loop.specs.Exports.{Exported};
 
 // An answer to the question of a run; a plan and the multipliers go into the lent slices.
@@ -31,7 +31,7 @@ pub extern "C" fn pozkerrin_loop_answer(
     plus: &mut [f64; 64],
     f1: &mut [f64; 64],
 ) -> u32
-    ensures { Exported kind x code v.now plan.old plan.new xi.old xi.new (run_of (alm_of w.old k.old f.old lw.old lk.old lf.old) (before u candidate gradient previous step half fpr direction best y plus f1)) (gave (step_of result w.new k.new f.new lw.new lk.new lf.new) (after u candidate gradient previous step half fpr direction best y plus f1)) }
+    ensures { Exported kind x code v.now plan.old plan.new xi.old xi.new (run_of (alm_of w.old k.old f.old lw.old lk.old lf.old) (before u candidate gradient previous step half fpr direction best y plus f1)) (gave (told_of result w.new k.new f.new lw.new lk.new lf.new) (after u candidate gradient previous step half fpr direction best y plus f1)) }
 {
     host_loop::pozkerrin_loop_answer(
         w, k, f, lw, lk, lf, kind, x, code, v, plan, xi, u, candidate, gradient, previous, step,

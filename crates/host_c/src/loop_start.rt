@@ -2,7 +2,7 @@
 ghost use Rattle.alm_core.specs.Rest.{LoopBoard};
 ghost use Rattle.alm_core.specs.Board.{set_u, set_y, set_y_plus};
 ghost use Rattle.alm_calls.specs.LoopCalls.{Begins};
-ghost use Rattle.alm_image.specs.AlmImage.{settings_given, step_of};
+ghost use Rattle.alm_image.specs.AlmImage.{settings_given, told_of};
 
 // A run that is begun at the lent slices, or its refusal.
 #[unsafe(no_mangle)]
@@ -33,7 +33,7 @@ pub extern "C" fn pozkerrin_loop_start(
     y: &mut [f64; 64],
     plus: &mut [f64; 64],
 ) -> u32
-    ensures { (b : LoopBoard) → Begins (settings_given n n1 n2 has_set_y max_inner max_outer limited tolerance epsilon delta initial penalty_factor epsilon_factor coefficient) at.now xi.now (step_of result w.new k.new f.new lw.new lk.new lf.new) (set_u u.new (set_y y.new (set_y_plus plus.new b))) }
+    ensures { (b : LoopBoard) → Begins (settings_given n n1 n2 has_set_y max_inner max_outer limited tolerance epsilon delta initial penalty_factor epsilon_factor coefficient) at.now xi.now (told_of result w.new k.new f.new lw.new lk.new lf.new) (set_u u.new (set_y y.new (set_y_plus plus.new b))) }
 {
     host_loop_start::pozkerrin_loop_start(
         w,

@@ -4,7 +4,7 @@
 ghost use Rattle.std.specs.Prelude.{[]};
 ghost use Rattle.alm_core.specs.Rest.{LoopBoard};
 ghost use Rattle.alm_calls.specs.LoopCalls.{Answers, run_of, gave};
-ghost use Rattle.alm_image.specs.AlmImage.{alm_of, step_of};
+ghost use Rattle.alm_image.specs.AlmImage.{alm_of, told_of};
 ghost use Rattle.host_loop_number.specs.Eight.{eight};
 
 use panoc_core::panoc_cache::Reply;
@@ -30,7 +30,7 @@ pub extern "C" fn pozkerrin_loop_number(
     y: &mut [f64; 64],
     plus: &[f64; 64],
 ) -> u32
-    ensures { (b : LoopBoard) → Answers (run_of (alm_of w.old k.old f.old lw.old lk.old lf.old) (eight u.old gradient.now step.old half.now fpr.old best.now y.old plus.now b)) (Reply.Number x) [] plan.old plan.new xi.old xi.new (gave (step_of result w.new k.new f.new lw.new lk.new lf.new) (eight u.new gradient.now step.new half.now fpr.new best.now y.new plus.now b)) }
+    ensures { (b : LoopBoard) → Answers (run_of (alm_of w.old k.old f.old lw.old lk.old lf.old) (eight u.old gradient.now step.old half.now fpr.old best.now y.old plus.now b)) (Reply.Number x) [] plan.old plan.new xi.old xi.new (gave (told_of result w.new k.new f.new lw.new lk.new lf.new) (eight u.new gradient.now step.new half.now fpr.new best.now y.new plus.now b)) }
 {
     host_loop_number::pozkerrin_loop_number(
         w, k, f, lw, lk, lf, x, plan, xi, u, gradient, step, half, fpr, best, y, plus,

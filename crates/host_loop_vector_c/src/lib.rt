@@ -2,7 +2,7 @@
 #![tactic(auto)]
 
 ghost use Rattle.alm_calls.specs.LoopCalls.{Answers, before, after, run_of, gave};
-ghost use Rattle.alm_image.specs.AlmImage.{alm_of, step_of};
+ghost use Rattle.alm_image.specs.AlmImage.{alm_of, told_of};
 
 use panoc_core::panoc_cache::Reply;
 
@@ -31,7 +31,7 @@ pub extern "C" fn pozkerrin_loop_vector(
     plus: &mut [f64; 64],
     f1: &mut [f64; 64],
 ) -> u32
-    ensures { Answers (run_of (alm_of w.old k.old f.old lw.old lk.old lf.old) (before u candidate gradient previous step half fpr direction best y plus f1)) Reply.Vector v.now plan.old plan.new xi.old xi.new (gave (step_of result w.new k.new f.new lw.new lk.new lf.new) (after u candidate gradient previous step half fpr direction best y plus f1)) }
+    ensures { Answers (run_of (alm_of w.old k.old f.old lw.old lk.old lf.old) (before u candidate gradient previous step half fpr direction best y plus f1)) Reply.Vector v.now plan.old plan.new xi.old xi.new (gave (told_of result w.new k.new f.new lw.new lk.new lf.new) (after u candidate gradient previous step half fpr direction best y plus f1)) }
 {
     host_loop_vector::pozkerrin_loop_vector(
         w, k, f, lw, lk, lf, v, plan, xi, u, candidate, gradient, previous, step, half, fpr,

@@ -4,7 +4,7 @@
 ghost use Rattle.std.specs.Prelude.{[]};
 ghost use Rattle.panoc_core.specs.Board.{Board, run_of, gave, five, set_best};
 ghost use Rattle.panoc_core.specs.Calls.{Answers};
-ghost use Rattle.image.specs.Image.{solve_of, step_of};
+ghost use Rattle.image.specs.Image.{solve_of, told_of};
 
 use panoc_core::panoc_cache::Reply;
 
@@ -23,7 +23,7 @@ pub extern "C" fn pozkerrin_inner_number(
     fpr: &mut [f64; 64],
     best: &[f64; 64],
 ) -> u32
-    ensures { (b : Board) → Answers (run_of (solve_of w.old k.old f.old) (set_best best.now (five u.now gradient.now step.old half.now fpr.old b))) (Reply.Number x) [] plan.old plan.new (gave (step_of result w.new k.new f.new) (set_best best.now (five u.now gradient.now step.new half.now fpr.new b))) }
+    ensures { (b : Board) → Answers (run_of (solve_of w.old k.old f.old) (set_best best.now (five u.now gradient.now step.old half.now fpr.old b))) (Reply.Number x) [] plan.old plan.new (gave (told_of result w.new k.new f.new) (set_best best.now (five u.now gradient.now step.new half.now fpr.new b))) }
 {
     host_number::pozkerrin_inner_number(w, k, f, x, plan, u, gradient, step, half, fpr, best)
 }

@@ -3,7 +3,7 @@
 
 ghost use Rattle.panoc_core.specs.Board.{before, after, run_of, gave};
 ghost use Rattle.panoc_core.specs.Calls.{Answers};
-ghost use Rattle.image.specs.Image.{solve_of, step_of};
+ghost use Rattle.image.specs.Image.{solve_of, told_of};
 
 use panoc_core::panoc_cache::Reply;
 
@@ -25,7 +25,7 @@ pub extern "C" fn pozkerrin_inner_vector(
     direction: &mut [f64; 64],
     best: &mut [f64; 64],
 ) -> u32
-    ensures { Answers (run_of (solve_of w.old k.old f.old) (before u plus gradient previous step half fpr direction best)) Reply.Vector v.now plan.old plan.new (gave (step_of result w.new k.new f.new) (after u plus gradient previous step half fpr direction best)) }
+    ensures { Answers (run_of (solve_of w.old k.old f.old) (before u plus gradient previous step half fpr direction best)) Reply.Vector v.now plan.old plan.new (gave (told_of result w.new k.new f.new) (after u plus gradient previous step half fpr direction best)) }
 {
     host_vector::pozkerrin_inner_vector(
         w, k, f, v, plan, u, plus, gradient, previous, step, half, fpr, direction, best,
