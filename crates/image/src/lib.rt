@@ -2,5 +2,6 @@
 #![tactic(auto)]
 
 pub mod kinds;
+pub mod lent;
 pub mod places;
 pub mod told;

@@ -1,10 +1,11 @@
 // The start of a solve: the first cost, the gradient at u, and the estimate of the Lipschitz constant, which leaves u shifted.
 #![tactic(auto)]
 
-ghost use Rattle.std.specs.Prelude.{◌≡◌, [], length, get_or};
-ghost use Rattle.panoc_core.specs.Board.{Board, Sound, Takes, set_u, set_gradient, set_step};
-ghost use Rattle.image.specs.Image.{phase_of, solve_of, step_of};
+ghost use Rattle.std.specs.Prelude.{◌≡◌, ◌∷◌, [], length};
+ghost use Rattle.panoc_core.specs.Board.{Board, Sound, Takes};
+ghost use Rattle.image.specs.LentRun.{small, gives, phase_in, places_in, held, left, Only, SameCounts, U, Gradient, Step};
 
+use image::lent::{Lent, Vectors};
 use image::places::{COST, N, NORM_H};
 use image_moves::{ask, stop};
 use image_puts::{put_cost, put_gammas, put_norm_h};
@@ -13,56 +14,52 @@ use panoc_core::outcome::Refusal;
 use panoc_core::panoc_cache::{Outcome, Phase, Question, Reply};
 
 // COST at u is x.
-pub fn on_cost(x: f64, w: &mut [u32; 6], k: &[usize; 6], f: &mut [f64; 13]) -> Outcome
-    requires { (Sound (solve_of w.old k.now f.old)) × (phase_of (get_or w.old 0 0) ≡ Phase.Cost) }
-    ensures { (b : Board) → Takes (solve_of w.old k.now f.old) b (Reply.Number x) [] (step_of result w.new k.now f.new) b }
+pub fn on_cost<'a>(x: f64, run: Lent<'a>) -> Outcome
+    requires { (Sound (small run)) × (phase_in run ≡ Phase.Cost) }
+    ensures goes { (b : Board) → Takes (small run.entry) b (Reply.Number x) [] (gives result run.exit) b }
+    ensures counts { SameCounts run.entry run.exit }
 {
-    put_cost(x, f);
-    ask(Phase::Gradient, Question::Gradient, w)
+    put_cost(x, run.f);
+    ask(Phase::Gradient, Question::Gradient, run.w)
 }
 
 // GRADIENT at u is v. The shift of the estimate stays in u.
-pub fn on_gradient(
-    v: &[f64],
-    w: &mut [u32; 6],
-    k: &[usize; 6],
-    f: &mut [f64; 13],
-    u: &mut [f64; 64],
-    gradient: &mut [f64; 64],
-) -> Outcome
-    requires { (Sound (solve_of w.old k.now f.old)) × (phase_of (get_or w.old 0 0) ≡ Phase.Gradient) × (length v.now ≡ get_or k.now 3 0) }
-    ensures { (b : Board) → Takes (solve_of w.old k.now f.old) (set_u u.old b) Reply.Vector v.now (step_of result w.new k.now f.new) (set_u u.new (set_gradient gradient.new b)) }
+pub fn on_gradient<'a>(v: &[f64], run: Lent<'a>, at: Vectors<'a>) -> Outcome
+    requires { (Sound (small run)) × (phase_in run ≡ Phase.Gradient) × (length v.now ≡ places_in run) }
+    ensures goes { Takes (small run.entry) (held at.entry) Reply.Vector v.now (gives result run.exit) (left at.exit) }
+    ensures vectors { Only (U ∷ Gradient ∷ []) (held at.entry) (left at.exit) }
+    ensures counts { SameCounts run.entry run.exit }
 {
-    vector_copies::take_into(v, gradient);
-    let norm_h = shift_updates::shift_into(u, k[N]);
-    put_norm_h(norm_h, f);
-    ask(Phase::Shifted, Question::Gradient, w)
+    vector_copies::take_into(v, at.gradient);
+    let norm_h = shift_updates::shift_into(at.u, run.k[N]);
+    put_norm_h(norm_h, run.f);
+    ask(Phase::Shifted, Question::Gradient, run.w)
 }
 
 // GRADIENT at the shifted u is v.
-pub fn on_shifted(
-    v: &[f64],
-    w: &mut [u32; 6],
-    k: &[usize; 6],
-    f: &mut [f64; 13],
-    u: &[f64; 64],
-    gradient: &[f64; 64],
-    step: &mut [f64; 64],
-) -> Outcome
-    requires { (Sound (solve_of w.old k.now f.old)) × (phase_of (get_or w.old 0 0) ≡ Phase.Shifted) × (length v.now ≡ get_or k.now 3 0) }
-    ensures { (b : Board) → Takes (solve_of w.old k.now f.old) (set_u u.now (set_gradient gradient.now (set_step step.old b))) Reply.Vector v.now (step_of result w.new k.now f.new) (set_u u.now (set_gradient gradient.now (set_step step.new b))) }
+pub fn on_shifted<'a>(v: &[f64], run: Lent<'a>, at: Vectors<'a>) -> Outcome
+    requires { (Sound (small run)) × (phase_in run ≡ Phase.Shifted) × (length v.now ≡ places_in run) }
+    ensures goes { Takes (small run.entry) (held at.entry) Reply.Vector v.now (gives result run.exit) (left at.exit) }
+    ensures vectors { Only (Step ∷ []) (held at.entry) (left at.exit) }
+    ensures counts { SameCounts run.entry run.exit }
 {
+    let Lent { w, k, f } = run;
+    let Vectors {
+        u,
+        gradient,
+        step,
+        ..
+    } = at;
     let n = k[N];
-    if both_finite(f[COST], gradient, n) {
-        vector_copies::take_into(v, step);
-        let change = matrix_operations::norm2_diff(step, gradient, n);
-        let lipschitz = change / f[NORM_H];
-        let gamma = gamma_of(lipschitz);
-        let sigma = sigma_of(gamma);
-        vector_updates::less_times_into(u, gamma, gradient, step, n);
-        put_gammas(lipschitz, gamma, sigma, f);
-        ask(Phase::Project, Question::Project, w)
-    } else {
-        stop(Refusal::FirstCost, w)
+    if !both_finite(f[COST], gradient, n) {
+        return stop(Refusal::FirstCost, w);
     }
+    vector_copies::take_into(v, step);
+    let change = matrix_operations::norm2_diff(step, gradient, n);
+    let lipschitz = change / f[NORM_H];
+    let gamma = gamma_of(lipschitz);
+    let sigma = sigma_of(gamma);
+    vector_updates::less_times_into(u, gamma, gradient, step, n);
+    put_gammas(lipschitz, gamma, sigma, f);
+    ask(Phase::Project, Question::Project, w)
 }

@@ -1,7 +1,7 @@
 use Rattle.panoc_core.specs.Laws.{cost_goes}
-use Rattle.image.specs.Image.{solve_of}
+use Rattle.image.specs.LentRun.{small}
 use Rattle.std.proofs.Common.{refl}
 use Rattle.panoc_estimate.proofs.on_cost.Goals as goal
 
-pub returns : goal.returns
-returns c = λ b. rw (c.ask.ensures.outcome, c.ask.ensures.moved, c.put_cost.ensures) (cost_goes (solve_of c.args.w.now c.args.k.now c.args.f.now) b c.requires.0 _ _ c.requires.1 refl)
+pub returns-clause-goes : goal.returns-clause-goes
+returns-clause-goes c = λ b. rw (c.ask.ensures.outcome, c.ask.ensures.moved, c.put_cost.ensures) (cost_goes (small c.args.run) b c.requires.0 _ _ c.requires.1 refl)
