@@ -5,11 +5,13 @@ use Rattle.panoc_core.specs.Board.{Board, five}
 use Rattle.panoc_core.specs.declared.outcome.Outcome.{Outcome}
 use Rattle.panoc_core.specs.declared.panoc_cache.Phase.{Phase}
 use Rattle.panoc_core.specs.declared.panoc_cache.Question.{Question}
+use Rattle.panoc_core.specs.declared.panoc_cache.Settings.{Settings}
 use Rattle.panoc_core.specs.declared.panoc_cache.Solve.{Solve}
 use Rattle.panoc_core.specs.declared.panoc_cache.SolverStatus.{SolverStatus}
 use Rattle.panoc_core.specs.Values as V
-use Rattle.image.specs.Image.{phase_of, solve_of, step_of}
+use Rattle.image.specs.Image.{phase_of, settings_of, solve_of, step_of, Tells}
 use Rattle.image.specs.declared.lent.Lent.{Lent}
+use Rattle.image.specs.declared.lent.LentRead.{LentRead}
 use Rattle.image.specs.declared.lent.Vectors.{Vectors}
 use Rattle.image.specs.declared.lent.CostVectors.{CostVectors}
 
@@ -31,6 +33,24 @@ VectorsLeft = Array × (Array × (Array × (Array × (Array × (Array × (Array 
 -- the small part that they stand for
 abbrev pub small : Lent → Solve
 small r = solve_of r.w.now r.k.now r.f.now
+
+abbrev pub small_read : LentRead → Solve
+small_read r = solve_of r.w.now r.k.now r.f.now
+
+-- what they stand for after a call
+abbrev pub small_left : LentLeft → Solve
+small_left r = solve_of r.0.now r.1.0.now r.1.1.0.now
+
+-- the settings among them
+abbrev pub settings_in : Lent → Settings
+settings_in r = settings_of r.w.now r.k.now r.f.now
+
+abbrev pub settings_left : LentLeft → Settings
+settings_left r = settings_of r.0.now r.1.0.now r.1.1.0.now
+
+-- a call for C has told o by its result n, and the small part stays
+abbrev pub TellsAt : V.Says → ℕ → Lent → LentLeft → Type 0
+TellsAt o n r l = Tells o n r.w.now r.k.now r.f.now l.0.now l.1.0.now l.1.1.0.now
 
 -- what a handler gives, o being its result
 abbrev pub gives : Outcome Question SolverStatus → LentLeft → V.Step

@@ -9,6 +9,14 @@ pub struct Lent<'a> {
     pub f: &'a mut [f64; 13],
 }
 
+// The same where they are only read.
+#[derive(Drop)]
+pub struct LentRead<'a> {
+    pub w: &'a [u32; 6],
+    pub k: &'a [usize; 6],
+    pub f: &'a [f64; 13],
+}
+
 // The vectors, in the order of the run's fields.
 #[derive(Drop)]
 pub struct Vectors<'a> {
