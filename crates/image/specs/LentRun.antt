@@ -1,7 +1,11 @@
 -- A run in lent arrays as a contract of a handler sees it: what it stands for, before the call and after, and what stays. Definitions only.
 use Rattle.std.specs.Prelude.{ℕ, ◌≡◌, Bool, true, false, cond, List, [], ◌∷◌, eqb, Float, get_or}
 use Rattle.std.specs.Borrow.{MutBor}
-use Rattle.panoc_core.specs.Board.{Board, five}
+use Rattle.std.specs.Float.{binary64}
+use Rattle.ieee.specs.Sums.{squares, norm}
+use Rattle.matrix_operations.specs.Firsts.{firsts}
+use Rattle.model.specs.Vectors.{minus, dot}
+use Rattle.panoc_core.specs.Board.{Board, Residual, five}
 use Rattle.panoc_core.specs.declared.outcome.Outcome.{Outcome}
 use Rattle.panoc_core.specs.declared.panoc_cache.Phase.{Phase}
 use Rattle.panoc_core.specs.declared.panoc_cache.Question.{Question}
@@ -134,6 +138,25 @@ Only ns b c =
     × Stays (among Fpr ns) b.fpr c.fpr
     × Stays (among Direction ns) b.direction c.direction
     × Stays (among Best ns) b.best c.best
+
+-- ---- the residual, of u or of a candidate
+
+-- u - h over the places in use, h being the half step, and its norm
+abbrev difference_at : Lent → List Float → Vectors → List Float
+difference_at r u v = minus binary64 (firsts (places_in r) u) (firsts (places_in r) v.half.now)
+
+abbrev pub norm_at : Lent → Vectors → Float
+norm_at r v = norm binary64 (difference_at r v.u.now v)
+
+-- the residual stands in its array, x is its norm and z its product with the gradient
+abbrev pub ResidualAt : Lent → Vectors → Float → Float → Type 0
+ResidualAt r v x z = Residual (places_in r) v.u.now v.half.now v.gradient.now v.fpr.now x z
+
+-- q is the sum of squares of the candidate's, and z its product with the gradient
+abbrev pub CandidateAt : Lent → Vectors → Float → Float → Type 0
+CandidateAt r v q z =
+    (q ≡ squares binary64 (difference_at r v.plus.now v))
+    × (z ≡ dot binary64 (firsts (places_in r) v.gradient.now) (difference_at r v.plus.now v))
 
 -- ---- the vectors of COST's answers; b is the board that they stand in
 
