@@ -1,17 +1,18 @@
 use Rattle.panoc_core.specs.Laws.{sound_n, finish_asks, finish_stops}
-use Rattle.panoc_core.specs.Board.{set_u, set_half, set_best}
-use Rattle.image.specs.Image.{solve_of}
+use Rattle.image.specs.LentRun.{small, held}
 use Rattle.std.proofs.Common.{refl, sym, ◌∙◌}
 use Rattle.panoc_finish.proofs.finish.Goals as goal
 
 pub cache_best_half_step-least-requires : goal.cache_best_half_step-least-requires
-cache_best_half_step-least-requires c = sound_n (solve_of c.args.w.now c.args.k.now c.args.f.now) c.requires.0
+cache_best_half_step-least-requires c = sound_n (small c.args.run) c.requires.0
 
 pub is_finite-requires : goal.is_finite-requires
-is_finite-requires c = sound_n (solve_of c.args.w.now c.args.k.now c.args.f.now) c.requires.0
+is_finite-requires c = sound_n (small c.args.run) c.requires.0
 
-pub returns-then-is_finite : goal.returns-then-is_finite
-returns-then-is_finite c = λ b. rw (c.ask.ensures.outcome, c.ask.ensures.moved, c.put_norms.ensures) (finish_asks (solve_of c.args.w.now c.args.k.now c.args.f.now) (set_u c.args.u.now (set_half c.args.half.now (set_best c.args.best.now b))) c.requires.0 _ _ _ _ c.requires.1 c.cache_best_half_step-least.ensures (sym c.is_finite.ensures ∙ c.if-is_finite.true) refl)
+pub returns-then-not-is_finite-clause-goes : goal.returns-then-not-is_finite-clause-goes
+returns-then-not-is_finite-clause-goes c =
+    rw (c.stop.ensures.outcome, c.stop.ensures.moved, c.put_norms.ensures) (finish_stops (small c.args.run) (held c.args.at) c.requires.0 _ _ _ _ c.requires.1 c.cache_best_half_step-least.ensures (sym c.is_finite.ensures ∙ c.if-not-is_finite.true) refl)
 
-pub returns-else-is_finite : goal.returns-else-is_finite
-returns-else-is_finite c = λ b. rw (c.stop.ensures.outcome, c.stop.ensures.moved, c.put_norms.ensures) (finish_stops (solve_of c.args.w.now c.args.k.now c.args.f.now) (set_u c.args.u.now (set_half c.args.half.now (set_best c.args.best.now b))) c.requires.0 _ _ _ _ c.requires.1 c.cache_best_half_step-least.ensures (sym c.is_finite.ensures ∙ c.if-is_finite.false) refl)
+pub returns-clause-goes : goal.returns-clause-goes
+returns-clause-goes c =
+    rw (c.ask.ensures.outcome, c.ask.ensures.moved, c.put_norms.ensures) (finish_asks (small c.args.run) (held c.args.at) c.requires.0 _ _ _ _ c.requires.1 c.cache_best_half_step-least.ensures (sym c.is_finite.ensures ∙ c.if-not-is_finite.false) refl)
