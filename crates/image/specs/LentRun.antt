@@ -1,6 +1,6 @@
 -- A run in lent arrays as a contract of a handler sees it: what it stands for, before the call and after, and what stays. Definitions only.
 use Rattle.std.specs.Prelude.{ℕ, ◌≡◌, Bool, true, false, cond, List, [], ◌∷◌, eqb, Float, get_or}
-use Rattle.std.specs.Borrow.{MutBor}
+use Rattle.std.specs.Borrow.{Bor, MutBor}
 use Rattle.std.specs.Float.{binary64}
 use Rattle.ieee.specs.Sums.{squares, norm}
 use Rattle.matrix_operations.specs.Firsts.{firsts}
@@ -162,3 +162,17 @@ CandidateAt r v q z =
 
 abbrev pub costs_held : CostVectors → Board → Board
 costs_held v b = five v.u.now v.gradient.now v.step.now v.half.now v.fpr.now b
+
+-- what a call leaves in them
+abbrev Read : Type 0
+Read = Bor (List Float)
+
+abbrev pub CostsLeft : Type 0
+CostsLeft = Read × (Read × (Array × (Read × (Array × Unit {0}))))
+
+abbrev pub costs_left : CostsLeft → Board → Board
+costs_left v b = five v.0.now v.1.0.now v.1.1.0.now v.1.1.1.0.now v.1.1.1.1.0.now b
+
+-- the residual stays; those that are lent to be read stay by their type
+abbrev pub SameResidual : CostVectors → CostsLeft → Type 0
+SameResidual v l = l.1.1.1.1.0.now ≡ v.fpr.now
