@@ -1,25 +1,27 @@
-use Rattle.panoc_core.specs.Laws.{sound_n, step_asks, step_ends}
+use Rattle.panoc_core.specs.Laws.{sound_n, step_asks}
 use Rattle.panoc_core.specs.Rest.{sound}
-use Rattle.panoc_core.specs.Board.{six}
-use Rattle.image.specs.Image.{solve_of}
+use Rattle.image.specs.LentRun.{small, held}
+use Rattle.panoc_step.specs.Laws.{step_finishes}
 use Rattle.std.proofs.Common.{refl}
 use Rattle.panoc_step.proofs.step.Goals as goal
 
 pub cache_previous_gradient-requires : goal.cache_previous_gradient-requires
-cache_previous_gradient-requires c = sound_n (solve_of c.args.w.now c.args.k.now c.args.f.now) c.requires.0
+cache_previous_gradient-requires c = sound_n (small c.args.run) c.requires.0
 
 pub cache_best_half_step-least-requires : goal.cache_best_half_step-least-requires
-cache_best_half_step-least-requires c = sound_n (solve_of c.args.w.now c.args.k.now c.args.f.now) c.requires.0
+cache_best_half_step-least-requires c = sound_n (small c.args.run) c.requires.0
 
-pub exit_condition-requires : goal.exit_condition-requires
-exit_condition-requires c = sound_n (solve_of c.args.w.now c.args.k.now c.args.f.now) c.requires.0
+pub exit_condition-ends-requires : goal.exit_condition-ends-requires
+exit_condition-ends-requires c = sound_n (small c.args.run) c.requires.0
 
 pub finish-requires : goal.finish-requires
 unfolding sound
 finish-requires c = (c.requires.0, c.requires.1.1)
 
-pub returns-then-exit_condition : goal.returns-then-exit_condition
-returns-then-exit_condition c = λ b. step_ends (solve_of c.args.w.now c.args.k.now c.args.f.now) (six c.args.u.now c.args.gradient.now c.args.previous.now c.args.half.now c.args.fpr.now c.args.best.now b) c.requires.0 _ _ _ _ _ c.cache_previous_gradient.ensures c.requires.1.0 c.requires.1.1 c.cache_best_half_step-least.ensures _ _ (c.exit_condition.ensures _) _ c.if-exit_condition.true (rw c.put_norms.ensures at c.finish.ensures)
+pub returns-then-ends-clause-goes : goal.returns-then-ends-clause-goes
+returns-then-ends-clause-goes c =
+    step_finishes (small c.args.run) (held c.args.at) _ _ _ _ _ _ _ c.cache_previous_gradient.ensures c.requires.1.0 c.requires.1.1 c.cache_best_half_step-least.ensures _ (c.exit_condition-ends.ensures _) c.if-ends.true (rw c.put_norms.ensures at c.finish.ensures.goes)
 
-pub returns-else-exit_condition : goal.returns-else-exit_condition
-returns-else-exit_condition c = λ b. rw (c.ask.ensures.outcome, c.ask.ensures.moved, c.put_search.ensures, c.put_norms-else-exit_condition.ensures) (step_asks (solve_of c.args.w.now c.args.k.now c.args.f.now) (six c.args.u.now c.args.gradient.now c.args.previous.now c.args.half.now c.args.fpr.now c.args.best.now b) c.requires.0 _ _ _ _ _ c.cache_previous_gradient.ensures c.requires.1.0 c.requires.1.1 c.cache_best_half_step-least.ensures _ _ (c.exit_condition.ensures _) _ _ c.requires.1.2 c.lipschitz_check_rhs-rhs.ensures c.if-exit_condition.false refl)
+pub returns-clause-goes : goal.returns-clause-goes
+returns-clause-goes c =
+    rw (c.ask.ensures.outcome, c.ask.ensures.moved, c.put_search.ensures, c.put_norms.ensures) (step_asks (small c.args.run) (held c.args.at) c.requires.0 _ _ _ _ _ c.cache_previous_gradient.ensures c.requires.1.0 c.requires.1.1 c.cache_best_half_step-least.ensures _ _ (c.exit_condition-ends.ensures _) _ _ c.requires.1.2 (rw c.put_norms.ensures at c.lipschitz_check_rhs-rhs.ensures) c.if-ends.false refl)
