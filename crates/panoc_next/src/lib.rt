@@ -1,10 +1,11 @@
 // The next step, or what follows the last.
 #![tactic(auto)]
 
-ghost use Rattle.std.specs.Prelude.{get_or};
-ghost use Rattle.panoc_core.specs.Board.{Board, Sound, Residual, Laps, six};
-ghost use Rattle.image.specs.Image.{solve_of, step_of};
+ghost use Rattle.std.specs.Prelude.{◌∷◌, []};
+ghost use Rattle.panoc_core.specs.Board.{Sound, Laps};
+ghost use Rattle.image.specs.LentRun.{small, gives, held, left, ResidualAt, Only, Previous, Best};
 
+use image::lent::{Lent, Vectors};
 use image::places::{DONE, LEFT, LIMITED};
 use image_moves::ask;
 use image_puts::{put_status, put_steps};
@@ -14,34 +15,21 @@ use panoc_finish::finish;
 use panoc_step::step;
 
 // The next step is counted, and TIME is asked if a limit is set; where none is left the solve ends.
-pub fn next_step(
-    norm: f64,
-    product: f64,
-    w: &mut [u32; 6],
-    k: &mut [usize; 6],
-    f: &mut [f64; 13],
-    u: &[f64; 64],
-    gradient: &[f64; 64],
-    previous: &mut [f64; 64],
-    half: &[f64; 64],
-    fpr: &[f64; 64],
-    best: &mut [f64; 64],
-) -> Outcome
-    requires { (Sound (solve_of w.old k.old f.old)) × (Residual (get_or k.old 3 0) u.now half.now gradient.now fpr.now norm product) }
-    ensures { (b : Board) → Laps (solve_of w.old k.old f.old) (six u.now gradient.now previous.old half.now fpr.now best.old b) (step_of result w.new k.new f.new) (six u.now gradient.now previous.new half.now fpr.now best.new b) }
+pub fn next_step<'a>(norm: f64, product: f64, run: Lent<'a>, at: Vectors<'a>) -> Outcome
+    requires { (Sound (small run)) × (ResidualAt run at norm product) }
+    ensures goes { Laps (small run.entry) (held at.entry) (gives result run.exit) (left at.exit) }
+    ensures vectors { Only (Previous ∷ Best ∷ []) (held at.entry) (left at.exit) }
 {
-    let left = k[LEFT];
+    let left = run.k[LEFT];
     if left == 0 {
-        put_status(ExitStatus::NotConvergedIterations, w);
-        return finish(norm, w, k, f, u, half, best);
+        put_status(ExitStatus::NotConvergedIterations, run.w);
+        return finish(norm, run, at);
     }
-    let done = k[DONE] + 1;
-    put_steps(left - 1, done, k);
-    if w[LIMITED] != 0 {
-        return ask(Phase::Time, Question::Time, w);
+    let done = run.k[DONE] + 1;
+    put_steps(left - 1, done, run.k);
+    if run.w[LIMITED] != 0 {
+        return ask(Phase::Time, Question::Time, run.w);
     }
-    put_status(standing(left - 1, true), w);
-    step(
-        norm, product, w, k, f, u, gradient, previous, half, fpr, best,
-    )
+    put_status(standing(left - 1, true), run.w);
+    step(norm, product, run, at)
 }
