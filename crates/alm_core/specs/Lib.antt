@@ -3,3 +3,4 @@ pub mod Rest
 pub mod Board
 pub mod Laws
 pub mod Handed
+pub mod LentLoop

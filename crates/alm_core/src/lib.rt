@@ -3,3 +3,4 @@
 
 pub mod alm_cache;
 pub mod alm_steps;
+pub mod lent;
