@@ -1,6 +1,7 @@
 use Rattle.std.proofs.Common.{ap, subst}
 use Rattle.alm_core.specs.Laws.{carries_asked, carries_ended, carries_refused, carries_failed}
-use Rattle.alm_core.specs.Board.{four, EndsWithin}
+use Rattle.alm_core.specs.Board.{EndsWithin}
+use Rattle.alm_core.specs.LentLoop.{outer_held}
 use Rattle.panoc_core.specs.Told.{numbered, told}
 use Rattle.panoc_core.specs.Values.{Says}
 use Rattle.alm_inner.proofs.on_inner.Goals as goal
@@ -9,13 +10,13 @@ pub on_solved-requires : goal.on_solved-requires
 on_solved-requires c = (c.requires.0, c.requires.1, subst (λ (z : Says). EndsWithin z) (ap numbered c.in-Ended.is) c.requires.2)
 
 pub returns-in-Asked : goal.returns-in-Asked
-returns-in-Asked c = λ b. carries_asked c.args.s (four c.args.u.now c.args.best.now c.args.y.now c.args.plus.now b) (told c.args.r) _ c.requires.0 c.requires.1 _ (ap numbered c.in-Asked.is) c.to.ensures
+returns-in-Asked c = λ b. carries_asked c.args.s (outer_held c.args.at b) (told c.args.r) _ c.requires.0 c.requires.1 _ (ap numbered c.in-Asked.is) c.to.ensures
 
 pub returns-in-Ended : goal.returns-in-Ended
-returns-in-Ended c = λ b. carries_ended c.args.s (four c.args.u.now c.args.best.now c.args.y.now c.args.plus.now b) (told c.args.r) _ c.requires.0 c.requires.1 _ _ (ap numbered c.in-Ended.is) (c.on_solved.ensures b)
+returns-in-Ended c = λ b. carries_ended c.args.s (outer_held c.args.at b) (told c.args.r) _ c.requires.0 c.requires.1 _ _ (ap numbered c.in-Ended.is) (c.on_solved.ensures b)
 
 pub returns-in-Refused : goal.returns-in-Refused
-returns-in-Refused c = λ b. carries_refused c.args.s (four c.args.u.now c.args.best.now c.args.y.now c.args.plus.now b) (told c.args.r) _ c.requires.0 c.requires.1 _ (ap numbered c.in-Refused.is) c.to-in-Refused.ensures
+returns-in-Refused c = λ b. carries_refused c.args.s (outer_held c.args.at b) (told c.args.r) _ c.requires.0 c.requires.1 _ (ap numbered c.in-Refused.is) c.to-in-Refused.ensures
 
 pub returns-in-Failed : goal.returns-in-Failed
-returns-in-Failed c = λ b. carries_failed c.args.s (four c.args.u.now c.args.best.now c.args.y.now c.args.plus.now b) (told c.args.r) _ c.requires.0 c.requires.1 _ (ap numbered c.in-Failed.is) c.to-in-Failed.ensures
+returns-in-Failed c = λ b. carries_failed c.args.s (outer_held c.args.at b) (told c.args.r) _ c.requires.0 c.requires.1 _ (ap numbered c.in-Failed.is) c.to-in-Failed.ensures
