@@ -1,9 +1,8 @@
 -- The numbers of a lent loop, there and back. Assumes nothing.
 use Prim.Native.Nat.{ℕ}
 use mathlib.Core.Path.{◌≡◌, refl, ap, ◌∙◌}
-use mathlib.Core.List.{List, [], ◌∷◌}
+use mathlib.Core.List.{List}
 use lib.Ieee.{Float}
-use lib.ListN.{get_or}
 use Rattle.panoc_core.specs.declared.panoc_cache.ExitStatus.{ExitStatus}
 use Rattle.panoc_core.specs.declared.panoc_cache.Solve.{Solve}
 use Rattle.alm_core.specs.declared.alm_cache.Alm.{Alm}
@@ -12,7 +11,7 @@ use Rattle.alm_core.specs.declared.alm_cache.AlmPhase.TheVariants as P
 use Rattle.alm_core.specs.declared.alm_cache.AlmSettings.{AlmSettings}
 use Rattle.image.specs.Image.{status_of, status_number, solve_of}
 use Rattle.image.specs.Rounds.{status_round}
-use Rattle.alm_image.specs.AlmImage.{phase_of, phase_number, settings_of, alm_of, with_numbers}
+use Rattle.alm_image.specs.AlmImage.{phase_of, phase_number, settings_of, alm_of, with_flags, with_counts, with_numbers}
 
 phase_round : (p : AlmPhase) → phase_of (phase_number p) ≡ p
 phase_round P.Over = refl
@@ -33,14 +32,6 @@ made s p x e z h₁ h₂ h₃ h₄ =
     ∙ ap (λ (q : ExitStatus). record { phase = s.phase; set = s.set; numbers = s.numbers; left = s.left; outer = s.outer; inner = s.inner; found = s.found; status = q; solve = z }) h₃
     ∙ ap (λ (q : Solve). record { phase = s.phase; set = s.set; numbers = s.numbers; left = s.left; outer = s.outer; inner = s.inner; found = s.found; status = s.status; solve = q }) h₄
 
-abbrev flags : ℕ → ℕ → List ℕ → List ℕ
-flags p e lw = p ∷ e ∷ get_or lw 2 0 ∷ get_or lw 3 0 ∷ []
-
-abbrev counts : Alm → List ℕ → List ℕ
-counts s lk = s.left ∷ s.outer.0 ∷ s.inner.0 ∷ s.found.0 ∷ get_or lk 4 0 ∷ get_or lk 5 0 ∷ get_or lk 6 0 ∷ get_or lk 7 0 ∷ get_or lk 8 0 ∷ get_or lk 9 0 ∷ []
-
-pub kept_as : (s : Alm) (w k : List ℕ) (f : List Float) (lw lk : List ℕ) (lf lf' : List Float) (p e : ℕ) → p ≡ phase_number s.phase → e ≡ status_number s.status
-    → lf' ≡ with_numbers s.numbers lf → solve_of w k f ≡ s.solve → settings_of lw lk lf ≡ s.set → alm_of w k f (flags p e lw) (counts s lk) lf' ≡ s
-kept_as s w k f lw lk lf lf' p e h₁ h₂ h₃ h₄ h₅ =
-    ap (alm_of w k f (flags p e lw) (counts s lk)) h₃
-    ∙ made s (phase_of p) (settings_of lw lk lf) (status_of e) (solve_of w k f) (ap phase_of h₁ ∙ phase_round s.phase) h₅ (ap status_of h₂ ∙ status_round s.status) h₄
+pub kept_as : (s : Alm) (w k : List ℕ) (f : List Float) (lw lk : List ℕ) (lf : List Float) → solve_of w k f ≡ s.solve → settings_of lw lk lf ≡ s.set
+    → alm_of w k f (with_flags s lw) (with_counts s lk) (with_numbers s.numbers lf) ≡ s
+kept_as s w k f lw lk lf h₁ h₂ = made s (phase_of (phase_number s.phase)) (settings_of lw lk lf) (status_of (status_number s.status)) (solve_of w k f) (phase_round s.phase) h₂ (status_round s.status) h₁

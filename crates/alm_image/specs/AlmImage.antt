@@ -1,7 +1,7 @@
 -- What the numbers of a lent loop stand for: w, k and f are those of the inner solve that it carries. Definitions only.
 use Rattle.std.specs.Prelude.{ℕ, ◌≡◌, List, [], ◌∷◌, Float, get_or}
 use Rattle.std.specs.Float.{nan}
-use Rattle.image.specs.Image.{flag_of, status_of, solve_of}
+use Rattle.image.specs.Image.{flag_of, status_of, status_number, solve_of}
 use Rattle.alm_core.specs.declared.alm_cache.Alm.{Alm}
 use Rattle.alm_core.specs.declared.alm_cache.AlmNumbers.{AlmNumbers}
 use Rattle.alm_core.specs.declared.alm_cache.AlmOptimizerStatus.{AlmOptimizerStatus}
@@ -87,6 +87,12 @@ abbrev pub Tells : LoopSays → ℕ → List ℕ → List ℕ → List Float →
 Tells o r w k f lk lf w' k' f' lk' lf' = ((lw : List ℕ) → alm_of w' k' f' lw lk' lf' ≡ alm_of w k f lw lk lf) × (outcome_of r w' k' f' lk' lf' ≡ o)
 
 -- ---- the lent numbers with some of them replaced
+abbrev pub with_flags : Alm → List ℕ → List ℕ
+with_flags s w = phase_number s.phase ∷ status_number s.status ∷ get_or w 2 0 ∷ get_or w 3 0 ∷ []
+
+abbrev pub with_counts : Alm → List ℕ → List ℕ
+with_counts s k = s.left ∷ s.outer.0 ∷ s.inner.0 ∷ s.found.0 ∷ get_or k 4 0 ∷ get_or k 5 0 ∷ get_or k 6 0 ∷ get_or k 7 0 ∷ get_or k 8 0 ∷ get_or k 9 0 ∷ []
+
 abbrev pub with_numbers : AlmNumbers → List Float → List Float
 with_numbers x f =
     x.penalty ∷ x.akkt_tolerance ∷ x.delta_y_norm ∷ x.f2_norm ∷ x.delta_y_norm_plus ∷ x.f2_norm_plus ∷ x.norm_fpr ∷ get_or f 7 nan ∷ get_or f 8 nan ∷ get_or f 9 nan ∷ get_or f 10 nan ∷ get_or f 11 nan ∷ get_or f 12 nan ∷ get_or f 13 nan ∷ get_or f 14 nan ∷ get_or f 15 nan ∷ get_or f 16 nan ∷ []

@@ -1,2 +1,3 @@
 pub mod AlmImage
 pub mod AlmStored
+pub mod LentLoop

@@ -1,8 +1,8 @@
 // The small part of a loop in lent arrays.
 ghost use Rattle.std.specs.Prelude.{◌≡◌};
-ghost use Rattle.image.specs.Image.{solve_of};
 ghost use Rattle.panoc_core.specs.Told.{numbered};
-ghost use Rattle.alm_image.specs.AlmImage.{settings_given, settings_of, numbers_of, alm_of, with_numbers, noted_outer, noted_ends, Tells};
+ghost use Rattle.alm_image.specs.AlmImage.{settings_given, numbers_of, with_flags, with_counts, with_numbers, noted_outer, noted_ends};
+ghost use Rattle.alm_image.specs.LentLoop.{loop_in, settings_in, settings_held, loop_left, settings_left, LoopTells, SameSolve, SameFlags};
 
 use crate::kinds::{alm_phase_number, alm_phase_of, alm_question_number};
 use crate::places::{
@@ -11,8 +11,9 @@ use crate::places::{
     MAX_INNER, MAX_OUTER, N, N1, N2, NORM_FPR, OUTER, PENALTY, PENALTY_FACTOR, PHASE, STATUS,
     TOLERANCE,
 };
+use crate::records::{LoopLent, LoopRead};
 use alm_core::alm_cache::{Alm, AlmNumbers, AlmOutcome, AlmSettings, OuterIterations};
-use image::kinds::{flag_of, status_number, status_of};
+use image::kinds::{flag_number, flag_of, status_number, status_of};
 use image::told;
 use image_keep::keep;
 use image_puts::{note, note_end};
@@ -57,9 +58,10 @@ pub fn settings_given(
 }
 
 // The settings that the lent numbers stand for.
-pub fn settings_of(lw: &[u32; 4], lk: &[usize; 10], lf: &[f64; 17]) -> AlmSettings
-    ensures { result ≡ settings_of lw.now lk.now lf.now }
+pub fn settings_of<'a>(run: LoopRead<'a>) -> AlmSettings
+    ensures { result ≡ settings_in run.entry }
 {
+    let LoopRead { lw, lk, lf, .. } = run;
     AlmSettings {
         n: lk[N],
         n1: lk[N1],
@@ -94,19 +96,20 @@ pub fn numbers_of(lf: &[f64; 17]) -> AlmNumbers
 }
 
 // The small part of the run that the lent numbers stand for.
-pub fn alm_of(
-    w: &[u32; 6],
-    k: &[usize; 6],
-    f: &[f64; 13],
-    lw: &[u32; 4],
-    lk: &[usize; 10],
-    lf: &[f64; 17],
-) -> Alm
-    ensures { result ≡ alm_of w.now k.now f.now lw.now lk.now lf.now }
+pub fn alm_of<'a>(run: LoopRead<'a>) -> Alm
+    ensures { result ≡ loop_in run.entry }
 {
+    let LoopRead {
+        w,
+        k,
+        f,
+        lw,
+        lk,
+        lf,
+    } = run;
     Alm {
         phase: alm_phase_of(lw[PHASE]),
-        set: settings_of(lw, lk, lf),
+        set: settings_of(run),
         numbers: numbers_of(lf),
         left: lk[LEFT],
         outer: OuterIterations(lk[OUTER]),
@@ -117,31 +120,25 @@ pub fn alm_of(
     }
 }
 
-// The settings of a start into the lent numbers; the rest is put at 0.
-pub fn begin(
-    n: usize,
-    n1: usize,
-    n2: usize,
-    has_set_y: u32,
-    max_inner: usize,
-    max_outer: usize,
-    limited: u32,
-    tolerance: f64,
-    epsilon: f64,
-    delta: f64,
-    initial: f64,
-    penalty_factor: f64,
-    epsilon_factor: f64,
-    coefficient: f64,
-    lw: &mut [u32; 4],
-    lk: &mut [usize; 10],
-    lf: &mut [f64; 17],
-)
-    ensures { settings_of lw.new lk.new lf.new ≡ settings_given n n1 n2 has_set_y max_inner max_outer limited tolerance epsilon delta initial penalty_factor epsilon_factor coefficient }
+// The settings of a start into the lent numbers; the rest of the loop's own is put at 0.
+pub fn begin<'a>(set: AlmSettings, run: LoopLent<'a>)
+    ensures settings { settings_left run.exit ≡ set }
+    ensures solve { SameSolve run.entry run.exit }
 {
-    *lw = [0, 0, has_set_y, limited];
-    *lk = [0, 0, 0, 0, n, n1, n2, max_inner, max_outer, 0];
-    *lf = [
+    *run.lw = [0, 0, flag_number(set.has_set_y), flag_number(set.limited)];
+    *run.lk = [
+        0,
+        0,
+        0,
+        0,
+        set.n,
+        set.n1,
+        set.n2,
+        set.max_inner_iterations,
+        set.max_outer_iterations,
+        0,
+    ];
+    *run.lf = [
         0.0,
         0.0,
         0.0,
@@ -149,17 +146,35 @@ pub fn begin(
         0.0,
         0.0,
         0.0,
-        tolerance,
-        epsilon,
-        delta,
-        initial,
-        penalty_factor,
-        epsilon_factor,
-        coefficient,
+        set.tolerance,
+        set.epsilon_tolerance,
+        set.delta_tolerance,
+        set.initial_inner_tolerance,
+        set.penalty_update_factor,
+        set.epsilon_update_factor,
+        set.sufficient_decrease_coeff,
         0.0,
         0.0,
         0.0,
     ];
+}
+
+// The phase of a run and the end that it hands back, into lw.
+fn keep_flags(s: Alm, lw: &mut [u32; 4])
+    ensures { lw.new ≡ with_flags s lw.old }
+{
+    lw[PHASE] = alm_phase_number(s.phase);
+    lw[STATUS] = status_number(s.status);
+}
+
+// The counts of a run, into lk.
+fn keep_counts(s: Alm, lk: &mut [usize; 10])
+    ensures { lk.new ≡ with_counts s lk.old }
+{
+    lk[LEFT] = s.left;
+    lk[OUTER] = s.outer.0;
+    lk[INNER] = s.inner.0;
+    lk[FOUND] = s.found.0;
 }
 
 // The running numbers into lf.
@@ -176,30 +191,26 @@ fn keep_numbers(x: AlmNumbers, lf: &mut [f64; 17])
 }
 
 // The small part of a run, into lent numbers that have its settings.
-pub fn keep_alm(
-    s: Alm,
-    w: &mut [u32; 6],
-    k: &mut [usize; 6],
-    f: &mut [f64; 13],
-    lw: &mut [u32; 4],
-    lk: &mut [usize; 10],
-    lf: &mut [f64; 17],
-)
-    requires { settings_of lw.old lk.old lf.old ≡ s.set }
-    ensures { alm_of w.new k.new f.new lw.new lk.new lf.new ≡ s }
+pub fn keep_alm<'a>(s: Alm, run: LoopLent<'a>)
+    requires { settings_held run ≡ s.set }
+    ensures { loop_left run.exit ≡ s }
 {
+    let LoopLent {
+        w,
+        k,
+        f,
+        lw,
+        lk,
+        lf,
+    } = run;
     keep_settings(s.solve.set, w, k, f);
     keep(s.solve, w, k, f);
-    lw[PHASE] = alm_phase_number(s.phase);
-    lw[STATUS] = status_number(s.status);
-    lk[LEFT] = s.left;
-    lk[OUTER] = s.outer.0;
-    lk[INNER] = s.inner.0;
-    lk[FOUND] = s.found.0;
+    keep_flags(s, lw);
+    keep_counts(s, lk);
     keep_numbers(s.numbers, lf);
 }
 
-// The numbers of an end that an inner solve has not.
+// The numbers of an end that an inner solve has not. Of the lent arrays these are two of six.
 fn note_ends(
     outer: usize,
     delta_y: f64,
@@ -217,16 +228,18 @@ fn note_ends(
 }
 
 // What a call gives, told in the lent numbers; its kind is the result.
-pub fn tell_alm(
-    o: AlmOutcome,
-    w: &mut [u32; 6],
-    k: &mut [usize; 6],
-    f: &mut [f64; 13],
-    lk: &mut [usize; 10],
-    lf: &mut [f64; 17],
-) -> u32
-    ensures { Tells (numbered o) result w.old k.old f.old lk.old lf.old w.new k.new f.new lk.new lf.new }
+pub fn tell_alm<'a>(o: AlmOutcome, run: LoopLent<'a>) -> u32
+    ensures told { LoopTells (numbered o) result run.entry run.exit }
+    ensures flags { SameFlags run.entry run.exit }
 {
+    let LoopLent {
+        w,
+        k,
+        f,
+        lk,
+        lf,
+        ..
+    } = run;
     match o {
         AlmOutcome::Asked(q) => {
             note(alm_question_number(q), w);

@@ -4,3 +4,4 @@
 pub mod kinds;
 pub mod lent;
 pub mod places;
+pub mod records;

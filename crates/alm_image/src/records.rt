@@ -1,0 +1,24 @@
+// A loop that lies in lent arrays, as records of references: the numbers of its inner solve, and its own, laid out as specs/AlmImage.antt has
+// them. A call for C puts them together, what works on the loop takes them whole.
+
+// What writes.
+#[derive(Drop)]
+pub struct LoopLent<'a> {
+    pub w: &'a mut [u32; 6],
+    pub k: &'a mut [usize; 6],
+    pub f: &'a mut [f64; 13],
+    pub lw: &'a mut [u32; 4],
+    pub lk: &'a mut [usize; 10],
+    pub lf: &'a mut [f64; 17],
+}
+
+// What only reads.
+#[derive(Clone, Copy)]
+pub struct LoopRead<'a> {
+    pub w: &'a [u32; 6],
+    pub k: &'a [usize; 6],
+    pub f: &'a [f64; 13],
+    pub lw: &'a [u32; 4],
+    pub lk: &'a [usize; 10],
+    pub lf: &'a [f64; 17],
+}
