@@ -7,6 +7,7 @@ ghost use Rattle.alm_vectors.specs.LoopPoints.{asked};
 ghost use Rattle.alm_image.specs.AlmImage.{alm_of};
 
 use alm_image::lent::alm_of;
+use alm_image::records::LoopRead;
 use alm_points::points_in_place;
 use image::told::number_in;
 
@@ -32,7 +33,14 @@ pub extern "C" fn pozkerrin_loop_points<'a>(
 ) -> u32
     ensures { (b : LoopBoard) → Points (run_of (alm_of w.now k.now f.now lw.now lk.now lf.now) (asked u.now candidate.now step.now half.now fpr.now best.now y.now plus.now b)) first.old first.new second.old second.new result }
 {
-    let s = alm_of(w, k, f, lw, lk, lf);
+    let s = alm_of(LoopRead {
+        w,
+        k,
+        f,
+        lw,
+        lk,
+        lf,
+    });
     let done = points_in_place(
         s, first, second, u, candidate, step, half, fpr, best, y, plus,
     );
