@@ -2,9 +2,11 @@
 #![tactic(auto)]
 
 ghost use Rattle.std.specs.Prelude.{◌≡◌};
-ghost use Rattle.image.specs.Image.{settings_of, with_numbers, solve_of};
+ghost use Rattle.image.specs.Image.{with_numbers};
+ghost use Rattle.image.specs.LentRun.{settings_in, small_left};
 
 use image::kinds::{flag_number, phase_number, status_number};
+use image::lent::Lent;
 use image::places::{
     COST, DONE, FORGET, GAMMA, LEAST, LEFT, LIPSCHITZ, NORM, NORM_H, PHASE, RHS, ROUNDS, SIGMA,
     STATUS, TAU,
@@ -27,10 +29,11 @@ fn keep_numbers(x: Numbers, f: &mut [f64; 13])
 }
 
 // The small part of a run, into lent numbers that have its settings.
-pub fn keep(s: Solve, w: &mut [u32; 6], k: &mut [usize; 6], f: &mut [f64; 13])
-    requires { settings_of w.old k.old f.old ≡ s.set }
-    ensures { solve_of w.new k.new f.new ≡ s }
+pub fn keep<'a>(s: Solve, run: Lent<'a>)
+    requires { settings_in run ≡ s.set }
+    ensures { small_left run.exit ≡ s }
 {
+    let Lent { w, k, f } = run;
     w[PHASE] = phase_number(s.phase);
     w[STATUS] = status_number(s.status);
     w[FORGET] = flag_number(s.forget);

@@ -3,12 +3,14 @@
 
 ghost use Rattle.std.specs.Prelude.{◌≡◌, cond};
 ghost use Rattle.panoc_core.specs.Told.{refusal_number, numbered};
-ghost use Rattle.image.specs.Image.{settings_given, settings_of, solve_of, noted, Tells};
+ghost use Rattle.image.specs.Image.{settings_given, noted};
+ghost use Rattle.image.specs.LentRun.{small_read, small_left, settings_left, TellsAt};
 
 use image::kinds::{
     akkt_of, akkt_set, akkt_value, flag_number, flag_of, phase_of, question_number, status_number,
     status_of,
 };
+use image::lent::{Lent, LentRead};
 use image::places::{
     AKKT, DONE, FORGET, HAS_AKKT, LEFT, LIMITED, MAX_ITER, N, PHASE, ROUNDS, STATUS, TOLERANCE,
 };
@@ -39,9 +41,10 @@ pub fn settings_given(
 }
 
 // The small part of the run that the lent numbers stand for.
-pub fn solve_of(w: &[u32; 6], k: &[usize; 6], f: &[f64; 13]) -> Solve
-    ensures { result ≡ solve_of w.now k.now f.now }
+pub fn solve_of<'a>(run: LentRead<'a>) -> Solve
+    ensures { result ≡ small_read run.entry }
 {
+    let LentRead { w, k, f } = run;
     Solve {
         phase: phase_of(w[PHASE]),
         set: settings_given(
@@ -62,29 +65,27 @@ pub fn solve_of(w: &[u32; 6], k: &[usize; 6], f: &[f64; 13]) -> Solve
 }
 
 // The settings of a start into the lent numbers; the rest is put at 0.
-pub fn begin(
+pub fn begin<'a>(
     n: usize,
     max_iter: usize,
     limited: u32,
     tolerance: f64,
     has_akkt: u32,
     akkt: f64,
-    w: &mut [u32; 6],
-    k: &mut [usize; 6],
-    f: &mut [f64; 13],
+    run: Lent<'a>,
 )
-    ensures { settings_of w.new k.new f.new ≡ settings_given n max_iter limited tolerance has_akkt akkt }
+    ensures { settings_left run.exit ≡ settings_given n max_iter limited tolerance has_akkt akkt }
 {
-    *w = [0, 0, 0, 0, limited, has_akkt];
-    *k = [0, 0, 0, n, max_iter, 0];
-    *f = [
+    *run.w = [0, 0, 0, 0, limited, has_akkt];
+    *run.k = [0, 0, 0, n, max_iter, 0];
+    *run.f = [
         0.0, 0.0, 0.0, 0.0, 0.0, 0.0, 0.0, 0.0, 0.0, tolerance, akkt, 0.0, 0.0,
     ];
 }
 
 // The settings of a solve into the lent numbers; the rest is put at 0.
-pub fn keep_settings(set: Settings, w: &mut [u32; 6], k: &mut [usize; 6], f: &mut [f64; 13])
-    ensures { settings_of w.new k.new f.new ≡ set }
+pub fn keep_settings<'a>(set: Settings, run: Lent<'a>)
+    ensures { settings_left run.exit ≡ set }
 {
     begin(
         set.n,
@@ -93,24 +94,25 @@ pub fn keep_settings(set: Settings, w: &mut [u32; 6], k: &mut [usize; 6], f: &mu
         set.tolerance,
         akkt_set(set.akkt_tolerance),
         akkt_value(set.akkt_tolerance),
-        w,
-        k,
-        f,
+        run,
     );
 }
 
 // The small part of a run, into any lent numbers.
-pub fn store(s: Solve, w: &mut [u32; 6], k: &mut [usize; 6], f: &mut [f64; 13])
-    ensures { solve_of w.new k.new f.new ≡ s }
+pub fn store<'a>(s: Solve, run: Lent<'a>)
+    ensures { small_left run.exit ≡ s }
 {
-    keep_settings(s.set, w, k, f);
-    keep(s, w, k, f);
+    let Lent { w, k, f } = run;
+    let settings = Lent { w, k, f };
+    keep_settings(s.set, settings);
+    keep(s, Lent { w, k, f });
 }
 
 // What a call gives, told in the lent numbers; its kind is the result.
-pub fn tell(o: Outcome, w: &mut [u32; 6], k: &mut [usize; 6], f: &mut [f64; 13]) -> u32
-    ensures { Tells (numbered o) result w.old k.old f.old w.new k.new f.new }
+pub fn tell<'a>(o: Outcome, run: Lent<'a>) -> u32
+    ensures { TellsAt (numbered o) result run.entry run.exit }
 {
+    let Lent { w, k, f } = run;
     match o {
         Outcome::Asked(q) => {
             note(question_number(q), w);

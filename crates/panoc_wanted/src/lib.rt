@@ -45,7 +45,7 @@ pub fn wants_at(n: usize, phase: Phase) -> Option<Wanted>
     }
 }
 
-// What a lent run waits for.
+// What a lent run waits for. Two of its three arrays, and no record of all: the floats do not count.
 pub fn wants_lent(w: &[u32; 6], k: &[usize; 6]) -> Option<Wanted>
     ensures { (f : List Float) → kind_of result ≡ wanted_of (solve_of w.now k.now f) }
 {
