@@ -6,8 +6,8 @@ use Rattle.panoc_core.specs.declared.panoc_cache.Settings.{Settings}
 use Rattle.panoc_core.specs.Board.{Board, Begins, set_u, nine}
 use Rattle.panoc_core.specs.Values.{Step}
 
-pub begun_set : (s x y : Settings) (v u : List Float) (r : Step) → y ≡ x → s ≡ x → ((b : Board) → Begins s v r (set_u u b)) → y ≡ r.state.set
-begun_set s x y v u r h e g = h ∙ sym e ∙ sym (g (nine [] [] [] [] [] [] [] [] [])).settings
+pub begun_set : (s y : Settings) (v u : List Float) (r : Step) → y ≡ s → ((b : Board) → Begins s v r (set_u u b)) → y ≡ r.state.set
+begun_set s y v u r h g = h ∙ sym (g (nine [] [] [] [] [] [] [] [] [])).settings
 
 pub begins_as : (s x : Settings) (v u : List Float) (r t : Step) → s ≡ x → t ≡ r → ((b : Board) → Begins s v r (set_u u b)) → (b : Board) → Begins x v t (set_u u b)
 begins_as s x v u r t e h g b =

@@ -64,38 +64,28 @@ pub fn solve_of<'a>(run: LentRead<'a>) -> Solve
     }
 }
 
-// The settings of a start into the lent numbers; the rest is put at 0.
-pub fn begin<'a>(
-    n: usize,
-    max_iter: usize,
-    limited: u32,
-    tolerance: f64,
-    has_akkt: u32,
-    akkt: f64,
-    run: Lent<'a>,
-)
-    ensures { settings_left run.exit ≡ settings_given n max_iter limited tolerance has_akkt akkt }
-{
-    *run.w = [0, 0, 0, 0, limited, has_akkt];
-    *run.k = [0, 0, 0, n, max_iter, 0];
-    *run.f = [
-        0.0, 0.0, 0.0, 0.0, 0.0, 0.0, 0.0, 0.0, 0.0, tolerance, akkt, 0.0, 0.0,
-    ];
-}
-
 // The settings of a solve into the lent numbers; the rest is put at 0.
 pub fn keep_settings<'a>(set: Settings, run: Lent<'a>)
     ensures { settings_left run.exit ≡ set }
 {
-    begin(
-        set.n,
-        set.max_iter,
-        flag_number(set.limited),
+    let akkt = set.akkt_tolerance;
+    *run.w = [0, 0, 0, 0, flag_number(set.limited), akkt_set(akkt)];
+    *run.k = [0, 0, 0, set.n, set.max_iter, 0];
+    *run.f = [
+        0.0,
+        0.0,
+        0.0,
+        0.0,
+        0.0,
+        0.0,
+        0.0,
+        0.0,
+        0.0,
         set.tolerance,
-        akkt_set(set.akkt_tolerance),
-        akkt_value(set.akkt_tolerance),
-        run,
-    );
+        akkt_value(akkt),
+        0.0,
+        0.0,
+    ];
 }
 
 // The small part of a run, into any lent numbers.

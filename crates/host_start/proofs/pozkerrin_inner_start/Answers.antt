@@ -4,7 +4,10 @@ use Rattle.host_start.proofs.Laws.{begun_set, begins_as}
 use Rattle.host_start.proofs.pozkerrin_inner_start.Goals as goal
 
 pub keep-requires : goal.keep-requires
-keep-requires c = begun_set _ _ _ _ _ _ c.begin.ensures c.settings_given-set.ensures c.start_in_place-r.ensures
+keep-requires c = begun_set _ _ _ _ _ c.keep_settings.ensures c.start_in_place-r.ensures
 
 pub returns : goal.returns
-returns c = begins_as _ _ _ _ _ _ c.settings_given-set.ensures (stored_as (told c.start_in_place-r.result) c.tell.result c.keep.new.w c.tell.new.w c.keep.new.k c.tell.new.k c.keep.new.f c.tell.new.f c.keep.ensures c.tell.ensures) c.start_in_place-r.ensures
+returns c =
+    begins_as _ _ _ _ _ _ c.settings_given-set.ensures
+    (stored_as (told c.start_in_place-r.result) c.tell.result c.keep.new.run.0 c.tell.new.run.0 c.keep.new.run.1.0 c.tell.new.run.1.0 c.keep.new.run.1.1.0 c.tell.new.run.1.1.0 c.keep.ensures c.tell.ensures)
+    c.start_in_place-r.ensures
