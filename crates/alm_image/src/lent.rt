@@ -1,8 +1,8 @@
 // The small part of a loop in lent arrays.
 ghost use Rattle.std.specs.Prelude.{◌≡◌};
-ghost use Rattle.panoc_core.specs.Told.{numbered};
+ghost use Rattle.panoc_core.specs.Told.{numbered, told};
 ghost use Rattle.alm_image.specs.AlmImage.{settings_given, numbers_of, with_flags, with_counts, with_numbers, noted_outer, noted_ends};
-ghost use Rattle.alm_image.specs.LentLoop.{loop_in, settings_in, settings_held, loop_left, settings_left, LoopTells, SameSolve, SameFlags};
+ghost use Rattle.alm_image.specs.LentLoop.{loop_in, settings_in, settings_held, loop_left, loop_told, settings_left, LoopTells, SameSolve, SameFlags};
 
 use crate::kinds::{alm_phase_number, alm_phase_of, alm_question_number};
 use crate::places::{
@@ -12,12 +12,12 @@ use crate::places::{
     TOLERANCE,
 };
 use crate::records::{LoopLent, LoopRead};
-use alm_core::alm_cache::{Alm, AlmNumbers, AlmOutcome, AlmSettings, OuterIterations};
+use alm_core::alm_cache::{Alm, AlmNumbers, AlmOutcome, AlmSettings, AlmStepped, OuterIterations};
 use image::kinds::{flag_number, flag_of, status_number, status_of};
+use image::lent::{Lent, LentRead};
 use image::told;
-use image_keep::keep;
 use image_puts::{note, note_end};
-use image_solve::{keep_settings, solve_of};
+use image_solve::{solve_of, store};
 use panoc_core::panoc_cache::InnerIterations;
 
 // The settings of a start, from its numbers.
@@ -116,7 +116,7 @@ pub fn alm_of<'a>(run: LoopRead<'a>) -> Alm
         inner: InnerIterations(lk[INNER]),
         found: InnerIterations(lk[FOUND]),
         status: status_of(lw[STATUS]),
-        solve: solve_of(w, k, f),
+        solve: solve_of(LentRead { w, k, f }),
     }
 }
 
@@ -203,8 +203,7 @@ pub fn keep_alm<'a>(s: Alm, run: LoopLent<'a>)
         lk,
         lf,
     } = run;
-    keep_settings(s.solve.set, w, k, f);
-    keep(s.solve, w, k, f);
+    store(s.solve, Lent { w, k, f });
     keep_flags(s, lw);
     keep_counts(s, lk);
     keep_numbers(s.numbers, lf);
@@ -273,4 +272,39 @@ pub fn tell_alm<'a>(o: AlmOutcome, run: LoopLent<'a>) -> u32
             told::FAILED
         }
     }
+}
+
+// What a step of the loop gave, kept and told.
+pub fn keep_step<'a>(o: AlmStepped, run: LoopLent<'a>) -> u32
+    requires { settings_held run ≡ o.state.set }
+    ensures { loop_told result run.exit ≡ told o }
+{
+    let LoopLent {
+        w,
+        k,
+        f,
+        lw,
+        lk,
+        lf,
+    } = run;
+    let kept = LoopLent {
+        w,
+        k,
+        f,
+        lw,
+        lk,
+        lf,
+    };
+    keep_alm(o.state, kept);
+    return tell_alm(
+        o.outcome,
+        LoopLent {
+            w,
+            k,
+            f,
+            lw,
+            lk,
+            lf,
+        },
+    );
 }
