@@ -4,13 +4,14 @@
 ghost use Rattle.std.specs.Prelude.{◌≡◌, ◌&&◌, ◌≤◌, eqb, length, get_or};
 ghost use Rattle.model.specs.Refusals.{xi_length};
 ghost use Rattle.panoc_core.specs.Told.{told};
-ghost use Rattle.alm_image.specs.AlmImage.{settings_of, told_of};
+ghost use Rattle.alm_image.specs.LentLoop.{settings_held, loop_told};
 ghost use Rattle.lent_places.specs.Handing.{HandsOut};
 
 use alm_calls::lent::hand_out_xi;
 use alm_core::alm_cache::AlmStepped;
-use alm_image::lent::{keep_alm, tell_alm};
+use alm_image::lent::keep_step;
 use alm_image::places::{N, N1, N2};
+use alm_image::records::LoopLent;
 use panoc_plan::hand_out;
 use start_sizes::xi_fits;
 
@@ -22,24 +23,20 @@ pub fn fits(lk: &[usize; 10], us: usize, places: usize) -> bool
 }
 
 // What a step of the loop gave: the lent places of an end, and all numbers. The result is the kind that the call for C returns.
-pub fn finish(
+// Of the vectors it reads u and y_plus alone.
+pub fn finish<'a>(
     o: AlmStepped,
-    w: &mut [u32; 6],
-    k: &mut [usize; 6],
-    f: &mut [f64; 13],
-    lw: &mut [u32; 4],
-    lk: &mut [usize; 10],
-    lf: &mut [f64; 17],
+    run: LoopLent<'a>,
     plan: &mut [f64],
     xi: &mut [f64],
     u: &[f64; 64],
     plus: &[f64; 64],
 ) -> u32
-    requires { (length plan.old ≤ 64) × (length xi.old ≤ 33) × (settings_of lw.old lk.old lf.old ≡ o.state.set) }
-    ensures { (told_of result w.new k.new f.new lw.new lk.new lf.new ≡ told o) × (HandsOut (told o) u.now plus.now plan.old plan.new xi.old xi.new) }
+    requires { (length plan.old ≤ 64) × (length xi.old ≤ 33) × (settings_held run ≡ o.state.set) }
+    ensures told { loop_told result run.exit ≡ told o }
+    ensures lent { HandsOut (told o) u.now plus.now plan.old plan.new xi.old xi.new }
 {
     hand_out(o.outcome, u, plan);
     hand_out_xi(o.outcome, plus, xi);
-    keep_alm(o.state, w, k, f, lw, lk, lf);
-    tell_alm(o.outcome, w, k, f, lk, lf)
+    keep_step(o, run)
 }
