@@ -37,9 +37,9 @@ use Rattle.factory.specs.FactoryPenalties.{d_psi_ends, d_psi_kinds}
 use Rattle.factory.specs.FactoryRuns.{takes_vector, asks_comes, ends_comes, fails_comes, accepted_at, wanted_is, takes_failure}
 
 -- a product that is added from its copy w
-pub product_added : (c : Float) (n : ℕ) (v w g g' : List Float) → length v ≡ n → firsts (length v) w ≡ v → firsts n g' ≡ plus_times binary64 c (firsts n g) (firsts n w)
-    → firsts n g' ≡ plus_times binary64 c (firsts n g) v
-product_added c n v w g g' l wv e = e ∙ ap (plus_times binary64 c (firsts n g)) (taken n v w l wv)
+pub product_added : (c : Float) (v w g g' : List Float) → firsts (length v) w ≡ v → firsts (length v) g' ≡ plus_times binary64 c (firsts (length v) g) (firsts (length v) w)
+    → firsts (length v) g' ≡ plus_times binary64 c (firsts (length v) g) v
+product_added c v w g g' wv e = e ∙ ap (plus_times binary64 c (firsts (length v) g)) wv
 
 -- no number is taken, and no yes or no
 vectors_alone : (s : Sizes) (p : DPsiPhase) (k : Kind) → ((n : ℕ) → k ≡ Kind.vector n → ⊥) → d_psi_kind_at s p ≡ some k → ⊥
@@ -129,24 +129,26 @@ module _ (s : DPsiState) (b : DPsiBoard) (ok : Sound s.sizes) (r : DPsiStep) whe
       dv ∙ ap (minus binary64 (firsts s.sizes.n1 b.t)) (taken s.sizes.n1 v w l wv) in
       vector_taken s b (d_psi_tdw b.t d w b) r ok P.ProjectC p _ v _ _ refl (asks s (d_psi_tdw b.t d w b) P.Jf1t _ _ _ r ok e (rw d≡))
 
-  pub jf1_goes : (v g w : List Float) → s.phase ≡ P.Jf1t → firsts s.sizes.n g ≡ plus_times binary64 s.c (firsts s.sizes.n b.gradient) v
+  pub jf1_goes : (v g w : List Float) → s.phase ≡ P.Jf1t → length v ≡ s.sizes.n → firsts (length v) g ≡ plus_times binary64 s.c (firsts (length v) b.gradient) v
       → ((d : DPsiBoard) → DPsiComes s.sizes (d_psi_f2_at s d) r d) → DPsiTakes s b Vector v r (d_psi_gw g w b)
   unfolding d_psi_resume S.d_psi_jf1
-  jf1_goes v g w p gv c =
+  jf1_goes v g w p l gv c =
+      let g≡ : firsts s.sizes.n g ≡ plus_times binary64 s.c (firsts s.sizes.n b.gradient) v = rw (← l) gv in
       vector_taken s b (d_psi_gw g w b) r ok P.Jf1t p _ v _ _ refl
       (subst (λ (x : List Float). DPsiComes s.sizes (S.d_psi_ask_f2 binary64 (sizes_of s.sizes) (firsts s.sizes.n b.u) s.c (firsts s.sizes.n1 b.y) x) r (d_psi_gw g w b))
-      gv (c (d_psi_gw g w b)))
+      g≡ (c (d_psi_gw g w b)))
 
   pub f2_goes : (v d : List Float) → s.phase ≡ P.F2 → length v ≡ s.sizes.n2 → firsts (length v) d ≡ v → r ≡ stepped (O.Asked Q.Jf2t) P.Jf2t s → DPsiTakes s b Vector v r (d_psi_d d b)
   unfolding d_psi_resume S.d_psi_f2
   f2_goes v d p l dv e = vector_taken s b (d_psi_d d b) r ok P.F2 p _ v _ _ refl (asks s (d_psi_d d b) P.Jf2t _ _ _ r ok e (rw (taken s.sizes.n2 v d l dv)))
 
-  pub jf2_gives : (v g w : List Float) → s.phase ≡ P.Jf2t → firsts s.sizes.n g ≡ plus_times binary64 s.c (firsts s.sizes.n b.gradient) v → r ≡ stepped (O.Ended tt) P.Over s
+  pub jf2_gives : (v g w : List Float) → s.phase ≡ P.Jf2t → length v ≡ s.sizes.n → firsts (length v) g ≡ plus_times binary64 s.c (firsts (length v) b.gradient) v → r ≡ stepped (O.Ended tt) P.Over s
       → DPsiTakes s b Vector v r (d_psi_gw g w b)
   unfolding d_psi_resume S.d_psi_jf2
-  jf2_gives v g w p gv e =
+  jf2_gives v g w p l gv e =
+      let g≡ : firsts s.sizes.n g ≡ plus_times binary64 s.c (firsts s.sizes.n b.gradient) v = rw (← l) gv in
       vector_taken s b (d_psi_gw g w b) r ok P.Jf2t p _ v _ _ refl
-      (subst (λ (x : List Float). DPsiComes s.sizes (stop (handed x)) r (d_psi_gw g w b)) gv (ends s (d_psi_gw g w b) r e))
+      (subst (λ (x : List Float). DPsiComes s.sizes (stop (handed x)) r (d_psi_gw g w b)) g≡ (ends s (d_psi_gw g w b) r e))
 
 -- ---- one answer
 pub took_vector : (s : DPsiState) (b b' : DPsiBoard) (a : Reply) (v : List Float) (r : DPsiStep) → a ≡ Vector → DPsiTakes s b Vector v r b' → DPsiTakes s b a v r b'

@@ -3,7 +3,7 @@
 
 // The public calls take any run, also one that no start made: `wants` tests its sizes once, and the handlers are told that they are sound.
 // Beside the handlers of psi, which have other phases and other vectors: each is a few calls of what both share.
-// The vectors are lent one by one, as C lends them, and a handler takes those that it needs: the others stay as they were.
+// A handler of one vector or two is lent these alone; a handler of three takes the lent vectors whole, and says which stay.
 ghost use Rattle.std.specs.Prelude.{◌≡◌, true, ◌≤◌, length};
 ghost use Rattle.std.specs.Float.{binary64};
 ghost use Rattle.matrix_operations.specs.Firsts.{firsts};
@@ -13,26 +13,28 @@ ghost use Rattle.panoc_core.specs.Told.{told, answered};
 ghost use Rattle.panoc_core.specs.Values.{reply_of, kind_of};
 ghost use Rattle.factory.specs.declared.alm_factory.DPsiBoard.{DPsiBoard};
 ghost use Rattle.factory.specs.FactoryCalls.{DPsiAnswers};
-ghost use Rattle.factory.specs.FactoryBoard.{Sound, Waits, DPsiComes, DPsiTakes, run_of, gave, stepped, d_psi_kind, d_psi_f2_at, d_psi_g, d_psi_gw, d_psi_d, d_psi_ytw, d_psi_tdw, d_psi_five};
+ghost use Rattle.factory.specs.FactoryBoard.{Sound, Waits, DPsiComes, DPsiTakes, run_of, gave, stepped, d_psi_kind, d_psi_f2_at, d_psi_g, d_psi_gw, d_psi_d};
+ghost use Rattle.factory.specs.FactoryLent.{d_psi_held, d_psi_left, SameGradient, SameT, SameD};
 
 use factory::alm_factory::steps::{refuses, to, wants};
 use factory::alm_factory::terms::shifted_into;
 use factory::alm_factory::{
-    DPsiAnswered, DPsiBoard, DPsiOutcome, DPsiPhase, DPsiRun, DPsiState, DPsiStepped, PsiQuestion,
+    DPsiAnswered, DPsiBoard, DPsiOutcome, DPsiPhase, DPsiRun, DPsiState, DPsiStepped, DPsiVectors,
+    PsiQuestion,
 };
 use panoc_core::outcome::Refusal;
 use panoc_core::panoc_cache::Reply;
 use panoc_core::refusals::refusal;
 use panoc_plan::hand_out;
 
-// c × the product v is added to the gradient, of whose 64 places n are in use.
+// c × the product v is added to the gradient, from a copy of v.
 #[tactic(auto, using(crate::proofs::DPsiLaws::product_added))]
-fn add_product(c: f64, v: &[f64], gradient: &mut [f64; 64], work: &mut [f64; 64], n: usize)
-    requires { (n ≤ 64) × (length v.now ≡ n) }
-    ensures { firsts n gradient.new ≡ plus_times binary64 c (firsts n gradient.old) v.now }
+fn add_product(c: f64, v: &[f64], gradient: &mut [f64; 64], work: &mut [f64; 64])
+    requires { length v.now ≤ 64 }
+    ensures { firsts (length v.now) gradient.new ≡ plus_times binary64 c (firsts (length v.now) gradient.old) v.now }
 {
     vector_copies::take_into(v, work);
-    vector_additions::add_times(c, work, gradient, n);
+    vector_additions::add_times(c, work, gradient, v.len());
 }
 
 // The part of F1 is in the gradient: F2, or the end where there is none.
@@ -63,16 +65,12 @@ fn on_gradient(s: DPsiState, v: &[f64], gradient: &mut [f64; 64]) -> DPsiStepped
 
 // F1 at u is v. y is divided by the penalty, also where that is 0.
 #[tactic(auto, using(factory::specs::FactoryLaws::sound_n1))]
-fn on_f1(
-    s: DPsiState,
-    v: &[f64],
-    y: &[f64; 64],
-    t: &mut [f64; 64],
-    work: &mut [f64; 64],
-) -> DPsiStepped
+fn on_f1<'a>(s: DPsiState, v: &[f64], at: DPsiVectors<'a>) -> DPsiStepped
     requires { Waits s DPsiPhase.F1 s.sizes.n1 v.now }
-    ensures { (b : DPsiBoard) → DPsiTakes s (d_psi_ytw y.now t.old work.old b) Reply.Vector v.now (told result) (d_psi_ytw y.now t.new work.new b) }
+    ensures goes { (b : DPsiBoard) → DPsiTakes s (d_psi_held at.entry b) Reply.Vector v.now (told result) (d_psi_left at.exit b) }
+    ensures stay { (SameGradient at.entry at.exit) × (SameD at.entry at.exit) }
 {
+    let DPsiVectors { y, t, work, .. } = at;
     shifted_into(s.c, v, y, t, work);
     to(
         s,
@@ -83,16 +81,12 @@ fn on_f1(
 
 // The projection of t is v.
 #[tactic(auto, using(factory::specs::FactoryLaws::sound_n1))]
-fn on_project_c(
-    s: DPsiState,
-    v: &[f64],
-    t: &[f64; 64],
-    d: &mut [f64; 64],
-    work: &mut [f64; 64],
-) -> DPsiStepped
+fn on_project_c<'a>(s: DPsiState, v: &[f64], at: DPsiVectors<'a>) -> DPsiStepped
     requires { Waits s DPsiPhase.ProjectC s.sizes.n1 v.now }
-    ensures { (b : DPsiBoard) → DPsiTakes s (d_psi_tdw t.now d.old work.old b) Reply.Vector v.now (told result) (d_psi_tdw t.now d.new work.new b) }
+    ensures goes { (b : DPsiBoard) → DPsiTakes s (d_psi_held at.entry b) Reply.Vector v.now (told result) (d_psi_left at.exit b) }
+    ensures stay { (SameGradient at.entry at.exit) × (SameT at.entry at.exit) }
 {
+    let DPsiVectors { t, d, work, .. } = at;
     vector_copies::take_into(v, work);
     vector_differences::minus_into(t, work, d, s.sizes.n1);
     to(s, DPsiPhase::Jf1t, DPsiOutcome::Asked(PsiQuestion::Jf1t))
@@ -104,7 +98,7 @@ fn on_jf1t(s: DPsiState, v: &[f64], gradient: &mut [f64; 64], work: &mut [f64; 6
     requires { Waits s DPsiPhase.Jf1t s.sizes.n v.now }
     ensures { (b : DPsiBoard) → DPsiTakes s (d_psi_gw gradient.old work.old b) Reply.Vector v.now (told result) (d_psi_gw gradient.new work.new b) }
 {
-    add_product(s.c, v, gradient, work, s.sizes.n);
+    add_product(s.c, v, gradient, work);
     ask_f2(s)
 }
 
@@ -124,76 +118,79 @@ fn on_jf2t(s: DPsiState, v: &[f64], gradient: &mut [f64; 64], work: &mut [f64; 6
     requires { Waits s DPsiPhase.Jf2t s.sizes.n v.now }
     ensures { (b : DPsiBoard) → DPsiTakes s (d_psi_gw gradient.old work.old b) Reply.Vector v.now (told result) (d_psi_gw gradient.new work.new b) }
 {
-    add_product(s.c, v, gradient, work, s.sizes.n);
+    add_product(s.c, v, gradient, work);
     to(s, DPsiPhase::Over, DPsiOutcome::Ended(()))
 }
 
 // A vector that was asked for: each phase has a handler of its own, with the vectors that it needs.
 #[tactic(auto, using(factory::specs::FactoryRuns::vector_not_over))]
-fn on_vector(
-    s: DPsiState,
-    v: &[f64],
-    y: &[f64; 64],
-    gradient: &mut [f64; 64],
-    t: &mut [f64; 64],
-    d: &mut [f64; 64],
-    work: &mut [f64; 64],
-) -> DPsiStepped
+fn on_vector<'a>(s: DPsiState, v: &[f64], at: DPsiVectors<'a>) -> DPsiStepped
     requires { answer_refusal (d_psi_kind s) (reply_of Reply.Vector) (length v.now) true ≡ 0 }
-    ensures { (b : DPsiBoard) → DPsiTakes s (d_psi_five y.now gradient.old t.old d.old work.old b) Reply.Vector v.now (told result) (d_psi_five y.now gradient.new t.new d.new work.new b) }
+    ensures { (b : DPsiBoard) → DPsiTakes s (d_psi_held at.entry b) Reply.Vector v.now (told result) (d_psi_left at.exit b) }
 {
     match s.phase {
-        DPsiPhase::Gradient => on_gradient(s, v, gradient),
-        DPsiPhase::F1 => on_f1(s, v, y, t, work),
-        DPsiPhase::ProjectC => on_project_c(s, v, t, d, work),
-        DPsiPhase::Jf1t => on_jf1t(s, v, gradient, work),
-        DPsiPhase::F2 => on_f2(s, v, d),
-        DPsiPhase::Jf2t => on_jf2t(s, v, gradient, work),
+        DPsiPhase::Gradient => on_gradient(s, v, at.gradient),
+        DPsiPhase::F1 => on_f1(s, v, at),
+        DPsiPhase::ProjectC => on_project_c(s, v, at),
+        DPsiPhase::Jf1t => {
+            let DPsiVectors { gradient, work, .. } = at;
+            on_jf1t(s, v, gradient, work)
+        }
+        DPsiPhase::F2 => on_f2(s, v, at.d),
+        DPsiPhase::Jf2t => {
+            let DPsiVectors { gradient, work, .. } = at;
+            on_jf2t(s, v, gradient, work)
+        }
         DPsiPhase::Over => refuses(s, Refusal::Over),
     }
 }
 
 // An answer that nothing refuses: each kind goes to another handler. A result stays in the gradient.
 #[tactic(auto, using(crate::proofs::DPsiLaws::vector_accepted, crate::proofs::DPsiLaws::number_refused, crate::proofs::DPsiLaws::yes_refused, crate::proofs::DPsiLaws::no_refused))]
-fn step(
-    s: DPsiState,
-    a: Reply,
-    v: &[f64],
-    y: &[f64; 64],
-    gradient: &mut [f64; 64],
-    t: &mut [f64; 64],
-    d: &mut [f64; 64],
-    work: &mut [f64; 64],
-) -> DPsiStepped
+fn step<'a>(s: DPsiState, a: Reply, v: &[f64], at: DPsiVectors<'a>) -> DPsiStepped
     requires { answer_refusal (d_psi_kind s) (reply_of a) (length v.now) true ≡ 0 }
-    ensures { (b : DPsiBoard) → DPsiTakes s (d_psi_five y.now gradient.old t.old d.old work.old b) a v.now (told result) (d_psi_five y.now gradient.new t.new d.new work.new b) }
+    ensures { (b : DPsiBoard) → DPsiTakes s (d_psi_held at.entry b) a v.now (told result) (d_psi_left at.exit b) }
 {
     match a {
-        Reply::Vector => on_vector(s, v, y, gradient, t, d, work),
+        Reply::Vector => on_vector(s, v, at),
         Reply::Failure(code) => to(s, DPsiPhase::Over, DPsiOutcome::Failed(code)),
         Reply::Number(_) | Reply::Yes | Reply::No => refuses(s, Refusal::Kind),
     }
 }
 
 // An answer to the question of a run in place: v is the vector where one is answered, and the result goes into the lent slice.
-pub fn answer_in_place(
+pub fn answer_in_place<'a>(
     s: DPsiState,
     a: Reply,
     v: &[f64],
     res: &mut [f64],
-    y: &[f64; 64],
-    gradient: &mut [f64; 64],
-    t: &mut [f64; 64],
-    d: &mut [f64; 64],
-    work: &mut [f64; 64],
+    at: DPsiVectors<'a>,
 ) -> DPsiStepped
-    ensures { (b : DPsiBoard) → DPsiAnswers (run_of s (d_psi_five y.now gradient.old t.old d.old work.old b)) a v.now res.old res.new (gave (told result) (d_psi_five y.now gradient.new t.new d.new work.new b)) }
+    ensures { (b : DPsiBoard) → DPsiAnswers (run_of s (d_psi_held at.entry b)) a v.now res.old res.new (gave (told result) (d_psi_left at.exit b)) }
 {
     let fits = res.len() == s.sizes.n;
     if let Some(refusal) = refusal(wants(s), a, v.len(), fits) {
         return refuses(s, refusal);
     }
-    let r = step(s, a, v, y, gradient, t, d, work);
+    let DPsiVectors {
+        y,
+        gradient,
+        t,
+        d,
+        work,
+    } = at;
+    let r = step(
+        s,
+        a,
+        v,
+        DPsiVectors {
+            y,
+            gradient,
+            t,
+            d,
+            work,
+        },
+    );
     hand_out(r.outcome, gradient, res);
     r
 }
@@ -206,17 +203,14 @@ pub fn answer(run: DPsiRun, a: Reply, v: &[f64], res: &mut [f64]) -> DPsiAnswere
     let mut t = run.board.t;
     let mut d = run.board.d;
     let mut work = run.board.work;
-    let r = answer_in_place(
-        run.state,
-        a,
-        v,
-        res,
-        &run.board.y,
-        &mut gradient,
-        &mut t,
-        &mut d,
-        &mut work,
-    );
+    let at = DPsiVectors {
+        y: &run.board.y,
+        gradient: &mut gradient,
+        t: &mut t,
+        d: &mut d,
+        work: &mut work,
+    };
+    let r = answer_in_place(run.state, a, v, res, at);
     DPsiAnswered {
         outcome: r.outcome,
         run: DPsiRun {

@@ -9,10 +9,11 @@ ghost use Rattle.factory.specs.FactoryBoard.{run_of, d_psi_utd};
 
 use factory::alm_factory::points::place;
 use factory::alm_factory::start::sound;
-use factory::alm_factory::{DPsiPhase, DPsiRun, DPsiState};
+use factory::alm_factory::{DPsiPhase, DPsiRun, DPsiState, Sizes};
 use panoc_core::outcome::Refusal;
 
-// Beside that of psi, since the phases, the lent vectors and the second points are others.
+// Beside that of psi, since the phases, the lent vectors and the second points are others. The three vectors are read alone: a struct of them
+// would shorten no clause, and each of the two callers would have to make it.
 // The points of the question of a run in place, into first and, for a product, second.
 #[tactic(auto, using(factory::specs::FactoryLaws::sound_n, factory::specs::FactoryLaws::sound_n1, factory::specs::FactoryLaws::sound_n2, factory::specs::FactoryRuns::points_over, factory::specs::FactoryRuns::points_wild), unfolding(factory::specs::FactoryRest::d_psi_resume))]
 pub fn points_in_place<'a>(
@@ -28,12 +29,12 @@ pub fn points_in_place<'a>(
     if !sound(s.sizes) {
         return Err(Refusal::Over);
     }
-    let n = s.sizes.n;
+    let Sizes { n, n1, n2 } = s.sizes;
     match s.phase {
-        DPsiPhase::Gradient | DPsiPhase::F1 | DPsiPhase::F2 => place(u, n, d, 0, first, second),
-        DPsiPhase::ProjectC => place(t, s.sizes.n1, d, 0, first, second),
-        DPsiPhase::Jf1t => place(u, n, d, s.sizes.n1, first, second),
-        DPsiPhase::Jf2t => place(u, n, d, s.sizes.n2, first, second),
+        DPsiPhase::Gradient | DPsiPhase::F1 | DPsiPhase::F2 => place(&u[..n], &[], first, second),
+        DPsiPhase::ProjectC => place(&t[..n1], &[], first, second),
+        DPsiPhase::Jf1t => place(&u[..n], &d[..n1], first, second),
+        DPsiPhase::Jf2t => place(&u[..n], &d[..n2], first, second),
         DPsiPhase::Over => Err(Refusal::Over),
     }
 }

@@ -4,7 +4,6 @@ use Rattle.std.proofs.Common.{sym, ap, ◌∙◌, arith, leb-true, eq-eqb, ne_eq
 use Rattle.std.proofs.Math.Path.{subst}
 use Rattle.std.proofs.Math.Option.{Option, none, some}
 use Rattle.matrix_operations.specs.Firsts.{firsts}
-use Rattle.matrix_operations.specs.Laws.{length_firsts}
 use Rattle.model.specs.Process.{Kind, Answer, refused, failed, Process, ask, score, begin, stop, PsiQuestion}
 use Rattle.model.specs.Refusals.{Reply, number, vector, yes, no, failure, unless, sizes_right, xi_length, mappings_right, psi_refusal, multipliers_in, wanted, given, as_number, as_vector, as_decision, fits_kind, fits_places, fits_length, answer_refusal, replied, accept}
 use Rattle.factory.specs.declared.alm_factory.Sizes.{Sizes}
@@ -180,17 +179,12 @@ started s us xi e =
     }
 
 -- ---- points
-module _ (p q : List Float) (n m : ℕ) (xs ys : List Float) where
-  pub placed_not_first : (length xs ≡ n → ⊥) → Placed (firsts n p) (firsts m q) xs xs ys ys 8
-  placed_not_first a = record { number = rw (ne_eqb (length xs) _ (λ z. a (z ∙ length_firsts n p))); kept = λ i z. (refl, refl); points = λ z. absurd (omega arith) }
+module _ (p q xs ys : List Float) where
+  pub placed_not_first : (length xs ≡ length p → ⊥) → Placed p q xs xs ys ys 8
+  placed_not_first a = record { number = rw (ne_eqb (length xs) _ a); kept = λ i z. (refl, refl); points = λ z. absurd (omega arith) }
 
-  pub placed_not_second : length xs ≡ n → (length ys ≡ m → ⊥) → Placed (firsts n p) (firsts m q) xs xs ys ys 8
-  placed_not_second a b =
-      record {
-        number = rw (eq-eqb (length xs) _ (a ∙ sym (length_firsts n p)), ne_eqb (length ys) _ (λ z. b (z ∙ length_firsts m q)));
-        kept = λ i z. (refl, refl);
-        points = λ z. absurd (omega arith);
-      }
+  pub placed_not_second : length xs ≡ length p → (length ys ≡ length q → ⊥) → Placed p q xs xs ys ys 8
+  placed_not_second a b = record { number = rw (eq-eqb (length xs) _ a, ne_eqb (length ys) _ b); kept = λ i z. (refl, refl); points = λ z. absurd (omega arith) }
 
 module _ {H : Type 0} (p : Process PsiQuestion H) (xs xs' ys ys' : List Float) (r : ℕ) where
   -- the points of the question that a run asks

@@ -2,6 +2,7 @@ pub mod FactoryValues
 pub mod FactoryRest
 pub mod FactoryCalls
 pub mod FactoryBoard
+pub mod FactoryLent
 pub mod FactoryLaws
 pub mod FactoryRuns
 pub mod FactoryPenalties

@@ -62,6 +62,14 @@ pub struct PsiBoard {
     pub work: [f64; 64],
 }
 
+// The lent vectors of an answer to psi, which reads no u. A call for C puts them together, a handler takes them whole.
+#[derive(Drop)]
+pub struct PsiVectors<'a> {
+    pub y: &'a [f64; 64],
+    pub t: &'a mut [f64; 64],
+    pub work: &'a mut [f64; 64],
+}
+
 // psi ends with its number.
 pub type PsiOutcome = Outcome<PsiQuestion, f64>;
 
@@ -94,6 +102,16 @@ pub struct DPsiBoard {
     pub t: [f64; 64],
     pub d: [f64; 64],
     pub work: [f64; 64],
+}
+
+// The lent vectors of an answer to d_psi, as psi has its own.
+#[derive(Drop)]
+pub struct DPsiVectors<'a> {
+    pub y: &'a [f64; 64],
+    pub gradient: &'a mut [f64; 64],
+    pub t: &'a mut [f64; 64],
+    pub d: &'a mut [f64; 64],
+    pub work: &'a mut [f64; 64],
 }
 
 // d_psi ends with nothing to say: its numbers are in the lent slice.

@@ -8,6 +8,7 @@ ghost use Rattle.psi_image.specs.PsiImage.{d_psi_of, d_psi_step_of};
 ghost use Rattle.psi_kinds.specs.PsiKinds.{reply_of};
 
 use d_psi::answer_in_place;
+use factory::alm_factory::DPsiVectors;
 use psi_image::d_psi::{d_psi_of, keep_d_psi, tell_d_psi};
 use psi_kinds::reply_of;
 
@@ -32,7 +33,14 @@ pub extern "C" fn pozkerrin_d_psi_answer(
 {
     let s = d_psi_of(w, k, f);
     let a = reply_of(kind, x, code);
-    let r = answer_in_place(s, a, v, res, y, gradient, t, d, work);
+    let at = DPsiVectors {
+        y,
+        gradient,
+        t,
+        d,
+        work,
+    };
+    let r = answer_in_place(s, a, v, res, at);
     keep_d_psi(r.state, w, k, f);
     tell_d_psi(r.outcome, w)
 }

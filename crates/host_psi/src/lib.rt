@@ -7,6 +7,7 @@ ghost use Rattle.factory.specs.FactoryCalls.{PsiAnswers};
 ghost use Rattle.psi_image.specs.PsiImage.{psi_of, psi_step_of};
 ghost use Rattle.psi_kinds.specs.PsiKinds.{reply_of};
 
+use factory::alm_factory::PsiVectors;
 use psi::answer_in_place;
 use psi_image::psi::{keep_psi, psi_of, tell_psi};
 use psi_kinds::reply_of;
@@ -29,7 +30,7 @@ pub extern "C" fn pozkerrin_psi_answer(
 {
     let s = psi_of(w, k, f);
     let a = reply_of(kind, x, code);
-    let r = answer_in_place(s, a, v, y, t, work);
+    let r = answer_in_place(s, a, v, PsiVectors { y, t, work });
     keep_psi(r.state, w, k, f);
     tell_psi(r.outcome, w, f)
 }

@@ -3,19 +3,21 @@
 
 // The public calls take any run, also one that no start made: `wants` tests its sizes once, and the handlers are told that they are sound.
 // Beside the handlers of d_psi, which have other phases and other vectors: each is a few calls of what both share.
-// The vectors are lent one by one, as C lends them, and a handler takes those that it needs: the others stay as they were.
+// A handler of one vector or two is lent these alone; a handler of three takes the lent vectors whole.
 ghost use Rattle.std.specs.Prelude.{◌≡◌, true, List, Float, length};
 ghost use Rattle.model.specs.Refusals.{answer_refusal};
 ghost use Rattle.panoc_core.specs.Told.{told, answered};
 ghost use Rattle.panoc_core.specs.Values.{reply_of, kind_of};
 ghost use Rattle.factory.specs.declared.alm_factory.PsiBoard.{PsiBoard};
 ghost use Rattle.factory.specs.FactoryCalls.{PsiReaches, PsiAnswers};
-ghost use Rattle.factory.specs.FactoryBoard.{Sound, Waits, PsiTakes, run_of, gave, stepped, psi_kind, psi_f2_at, psi_w, psi_tw, psi_ytw};
+ghost use Rattle.factory.specs.FactoryBoard.{Sound, Waits, PsiTakes, run_of, gave, stepped, psi_kind, psi_f2_at, psi_w, psi_tw};
+ghost use Rattle.factory.specs.FactoryLent.{psi_held, psi_left};
 
 use factory::alm_factory::steps::{refuses, to, wants};
 use factory::alm_factory::terms::shifted_into;
 use factory::alm_factory::{
     PsiAnswered, PsiBoard, PsiOutcome, PsiPhase, PsiQuestion, PsiRun, PsiState, PsiStepped,
+    PsiVectors,
 };
 use panoc_core::outcome::Refusal;
 use panoc_core::panoc_cache::Reply;
@@ -49,16 +51,11 @@ fn on_cost(s: PsiState, x: f64) -> PsiStepped
 
 // F1 at u is v.
 #[tactic(auto, using(factory::specs::FactoryLaws::sound_n1))]
-fn on_f1(
-    s: PsiState,
-    v: &[f64],
-    y: &[f64; 64],
-    t: &mut [f64; 64],
-    work: &mut [f64; 64],
-) -> PsiStepped
+fn on_f1<'a>(s: PsiState, v: &[f64], at: PsiVectors<'a>) -> PsiStepped
     requires { Waits s PsiPhase.F1 s.sizes.n1 v.now }
-    ensures { (b : PsiBoard) → PsiTakes s (psi_ytw y.now t.old work.old b) Reply.Vector v.now (told result) (psi_ytw y.now t.new work.new b) }
+    ensures { (b : PsiBoard) → PsiTakes s (psi_held at.entry b) Reply.Vector v.now (told result) (psi_left at.exit b) }
 {
+    let PsiVectors { y, t, work } = at;
     shifted_into(divisor(s.c), v, y, t, work);
     to(
         s,
@@ -93,20 +90,17 @@ fn on_f2(s: PsiState, v: &[f64], work: &mut [f64; 64]) -> PsiStepped
 
 // A vector that was asked for: each phase has a handler of its own, with the vectors that it needs.
 #[tactic(auto, using(factory::specs::FactoryRuns::vector_not_over, crate::proofs::PsiLaws::vector_not_cost))]
-fn on_vector(
-    s: PsiState,
-    v: &[f64],
-    y: &[f64; 64],
-    t: &mut [f64; 64],
-    work: &mut [f64; 64],
-) -> PsiStepped
+fn on_vector<'a>(s: PsiState, v: &[f64], at: PsiVectors<'a>) -> PsiStepped
     requires { answer_refusal (psi_kind s) (reply_of Reply.Vector) (length v.now) true ≡ 0 }
-    ensures { (b : PsiBoard) → PsiTakes s (psi_ytw y.now t.old work.old b) Reply.Vector v.now (told result) (psi_ytw y.now t.new work.new b) }
+    ensures { (b : PsiBoard) → PsiTakes s (psi_held at.entry b) Reply.Vector v.now (told result) (psi_left at.exit b) }
 {
     match s.phase {
-        PsiPhase::F1 => on_f1(s, v, y, t, work),
-        PsiPhase::ProjectC => on_project_c(s, v, t, work),
-        PsiPhase::F2 => on_f2(s, v, work),
+        PsiPhase::F1 => on_f1(s, v, at),
+        PsiPhase::ProjectC => {
+            let PsiVectors { t, work, .. } = at;
+            on_project_c(s, v, t, work)
+        }
+        PsiPhase::F2 => on_f2(s, v, at.work),
         PsiPhase::Cost => refuses(s, Refusal::Kind),
         PsiPhase::Over => refuses(s, Refusal::Over),
     }
@@ -114,38 +108,24 @@ fn on_vector(
 
 // An answer that nothing refuses: each kind goes to another handler.
 #[tactic(auto, using(crate::proofs::PsiLaws::vector_accepted, crate::proofs::PsiLaws::yes_not, crate::proofs::PsiLaws::no_not))]
-fn step(
-    s: PsiState,
-    a: Reply,
-    v: &[f64],
-    y: &[f64; 64],
-    t: &mut [f64; 64],
-    work: &mut [f64; 64],
-) -> PsiStepped
+fn step<'a>(s: PsiState, a: Reply, v: &[f64], at: PsiVectors<'a>) -> PsiStepped
     requires { answer_refusal (psi_kind s) (reply_of a) (length v.now) true ≡ 0 }
-    ensures { (b : PsiBoard) → PsiTakes s (psi_ytw y.now t.old work.old b) a v.now (told result) (psi_ytw y.now t.new work.new b) }
+    ensures { (b : PsiBoard) → PsiTakes s (psi_held at.entry b) a v.now (told result) (psi_left at.exit b) }
 {
     match a {
         Reply::Number(x) => on_cost(s, x),
-        Reply::Vector => on_vector(s, v, y, t, work),
+        Reply::Vector => on_vector(s, v, at),
         Reply::Failure(code) => to(s, PsiPhase::Over, PsiOutcome::Failed(code)),
         Reply::Yes | Reply::No => refuses(s, Refusal::Kind),
     }
 }
 
 // An answer to the question of a run in place: v is the vector where one is answered.
-pub fn answer_in_place(
-    s: PsiState,
-    a: Reply,
-    v: &[f64],
-    y: &[f64; 64],
-    t: &mut [f64; 64],
-    work: &mut [f64; 64],
-) -> PsiStepped
-    ensures { (b : PsiBoard) → PsiAnswers (run_of s (psi_ytw y.now t.old work.old b)) a v.now (gave (told result) (psi_ytw y.now t.new work.new b)) }
+pub fn answer_in_place<'a>(s: PsiState, a: Reply, v: &[f64], at: PsiVectors<'a>) -> PsiStepped
+    ensures { (b : PsiBoard) → PsiAnswers (run_of s (psi_held at.entry b)) a v.now (gave (told result) (psi_left at.exit b)) }
 {
     match refusal(wants(s), a, v.len(), true) {
-        None => step(s, a, v, y, t, work),
+        None => step(s, a, v, at),
         Some(refusal) => refuses(s, refusal),
     }
 }
@@ -156,7 +136,12 @@ pub fn answer(run: PsiRun, a: Reply, v: &[f64]) -> PsiAnswered
 {
     let mut t = run.board.t;
     let mut work = run.board.work;
-    let r = answer_in_place(run.state, a, v, &run.board.y, &mut t, &mut work);
+    let at = PsiVectors {
+        y: &run.board.y,
+        t: &mut t,
+        work: &mut work,
+    };
+    let r = answer_in_place(run.state, a, v, at);
     PsiAnswered {
         outcome: r.outcome,
         run: PsiRun {

@@ -28,8 +28,8 @@ pub fn points_in_place<'a>(
         return Err(Refusal::Over);
     }
     match s.phase {
-        PsiPhase::Cost | PsiPhase::F1 | PsiPhase::F2 => place(u, s.sizes.n, u, 0, first, second),
-        PsiPhase::ProjectC => place(t, s.sizes.n1, t, 0, first, second),
+        PsiPhase::Cost | PsiPhase::F1 | PsiPhase::F2 => place(&u[..s.sizes.n], &[], first, second),
+        PsiPhase::ProjectC => place(&t[..s.sizes.n1], &[], first, second),
         PsiPhase::Over => Err(Refusal::Over),
     }
 }

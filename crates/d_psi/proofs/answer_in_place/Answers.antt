@@ -1,5 +1,5 @@
 use Rattle.d_psi.proofs.DPsiLaws.{answer_goes, answer_refused, step_fits, result_fits}
-use Rattle.factory.specs.FactoryBoard.{d_psi_five}
+use Rattle.factory.specs.FactoryLent.{d_psi_held}
 use Rattle.d_psi.proofs.answer_in_place.Goals as goal
 
 pub step-r-requires : goal.step-r-requires
@@ -9,7 +9,7 @@ pub hand_out-requires : goal.hand_out-requires
 hand_out-requires c = result_fits c.args.s c.args.a c.args.v.now c.args.res.now _ c.wants.ensures c.in_default.ensures
 
 pub returns : goal.returns
-returns c = λ b. answer_goes c.args.s c.args.a c.args.v.now c.args.res.now _ c.wants.ensures c.in_default.ensures (d_psi_five c.args.y.now c.args.gradient.now c.args.t.now c.args.d.now c.args.work.now b) _ _ _ (c.step-r.ensures b) c.hand_out.ensures
+returns c = λ b. answer_goes c.args.s c.args.a c.args.v.now c.args.res.now _ c.wants.ensures c.in_default.ensures (d_psi_held c.args.at b) _ _ _ (c.step-r.ensures b) c.hand_out.ensures
 
 pub returns-in-Some : goal.returns-in-Some
-returns-in-Some c = λ b. answer_refused c.args.s c.args.a c.args.v.now c.args.res.now _ c.wants.ensures _ c.in-Some.ensures (d_psi_five c.args.y.now c.args.gradient.now c.args.t.now c.args.d.now c.args.work.now b) _ c.refuses.ensures
+returns-in-Some c = λ b. answer_refused c.args.s c.args.a c.args.v.now c.args.res.now _ c.wants.ensures _ c.in-Some.ensures (d_psi_held c.args.at b) _ c.refuses.ensures

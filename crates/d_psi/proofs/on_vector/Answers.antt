@@ -1,7 +1,8 @@
 use Rattle.factory.specs.declared.alm_factory.DPsiPhase.TheVariants as P
 use Rattle.std.proofs.Common.{refl}
 use Rattle.factory.specs.FactoryRuns.{vector_at}
-use Rattle.factory.specs.FactoryBoard.{d_psi_five, d_psi_kind_at}
+use Rattle.factory.specs.FactoryBoard.{d_psi_kind_at}
+use Rattle.factory.specs.FactoryLent.{d_psi_held}
 use Rattle.d_psi.proofs.on_vector.Goals as goal
 
 pub on_gradient-requires : goal.on_gradient-requires
@@ -23,19 +24,13 @@ pub on_jf2t-requires : goal.on_jf2t-requires
 on_jf2t-requires c = vector_at d_psi_kind_at c.args.s _ c.requires P.Jf2t c.in-Jf2t.is _ refl
 
 pub returns-in-Gradient : goal.returns-in-Gradient
-returns-in-Gradient c = λ b. c.on_gradient.ensures (d_psi_five c.args.y.now c.args.gradient.now c.args.t.now c.args.d.now c.args.work.now b)
-
-pub returns-in-F1 : goal.returns-in-F1
-returns-in-F1 c = λ b. c.on_f1.ensures (d_psi_five c.args.y.now c.args.gradient.now c.args.t.now c.args.d.now c.args.work.now b)
-
-pub returns-in-ProjectC : goal.returns-in-ProjectC
-returns-in-ProjectC c = λ b. c.on_project_c.ensures (d_psi_five c.args.y.now c.args.gradient.now c.args.t.now c.args.d.now c.args.work.now b)
+returns-in-Gradient c = λ b. c.on_gradient.ensures (d_psi_held c.args.at b)
 
 pub returns-in-Jf1t : goal.returns-in-Jf1t
-returns-in-Jf1t c = λ b. c.on_jf1t.ensures (d_psi_five c.args.y.now c.args.gradient.now c.args.t.now c.args.d.now c.args.work.now b)
+returns-in-Jf1t c = λ b. c.on_jf1t.ensures (d_psi_held c.args.at b)
 
 pub returns-in-F2 : goal.returns-in-F2
-returns-in-F2 c = λ b. c.on_f2.ensures (d_psi_five c.args.y.now c.args.gradient.now c.args.t.now c.args.d.now c.args.work.now b)
+returns-in-F2 c = λ b. c.on_f2.ensures (d_psi_held c.args.at b)
 
 pub returns-in-Jf2t : goal.returns-in-Jf2t
-returns-in-Jf2t c = λ b. c.on_jf2t.ensures (d_psi_five c.args.y.now c.args.gradient.now c.args.t.now c.args.d.now c.args.work.now b)
+returns-in-Jf2t c = λ b. c.on_jf2t.ensures (d_psi_held c.args.at b)

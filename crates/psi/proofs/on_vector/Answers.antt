@@ -1,7 +1,8 @@
 use Rattle.factory.specs.declared.alm_factory.PsiPhase.TheVariants as P
 use Rattle.std.proofs.Common.{refl}
 use Rattle.factory.specs.FactoryRuns.{vector_at}
-use Rattle.factory.specs.FactoryBoard.{psi_ytw, psi_kind_at}
+use Rattle.factory.specs.FactoryBoard.{psi_kind_at}
+use Rattle.factory.specs.FactoryLent.{psi_held}
 use Rattle.psi.proofs.on_vector.Goals as goal
 
 pub on_f1-requires : goal.on_f1-requires
@@ -14,7 +15,7 @@ pub on_f2-requires : goal.on_f2-requires
 on_f2-requires c = vector_at psi_kind_at c.args.s _ c.requires P.F2 c.in-F2.is _ refl
 
 pub returns-in-ProjectC : goal.returns-in-ProjectC
-returns-in-ProjectC c = λ b. c.on_project_c.ensures (psi_ytw c.args.y.now c.args.t.now c.args.work.now b)
+returns-in-ProjectC c = λ b. c.on_project_c.ensures (psi_held c.args.at b)
 
 pub returns-in-F2 : goal.returns-in-F2
-returns-in-F2 c = λ b. c.on_f2.ensures (psi_ytw c.args.y.now c.args.t.now c.args.work.now b)
+returns-in-F2 c = λ b. c.on_f2.ensures (psi_held c.args.at b)
