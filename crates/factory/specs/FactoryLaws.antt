@@ -1,9 +1,10 @@
 -- Laws that psi and d_psi share: sizes, the table, what a start takes, points. Assumes nothing.
-use Rattle.std.specs.Prelude.{ℕ, suc, ◌+◌, ◌≤◌, ◌≡◌, refl, Bool, true, false, cond, ◌&&◌, List, [], ◌∷◌, leb, eqb, ltb, Float, length}
+use Rattle.std.specs.Prelude.{ℕ, suc, ◌+◌, ◌≤◌, ◌≡◌, refl, Bool, true, false, cond, ◌&&◌, List, [], ◌∷◌, leb, eqb, ltb, Float, length, take}
 use Rattle.std.proofs.Common.{sym, ap, ◌∙◌, arith, leb-true, eq-eqb, ne_eqb, eqb-true}
 use Rattle.std.proofs.Math.Path.{subst}
 use Rattle.std.proofs.Math.Option.{Option, none, some}
 use Rattle.matrix_operations.specs.Firsts.{firsts}
+use Rattle.matrix_operations.specs.Laws.{firsts_take}
 use Rattle.model.specs.Process.{Kind, Answer, refused, failed, Process, ask, score, begin, stop, PsiQuestion}
 use Rattle.model.specs.Refusals.{Reply, number, vector, yes, no, failure, unless, sizes_right, xi_length, mappings_right, psi_refusal, multipliers_in, wanted, given, as_number, as_vector, as_decision, fits_kind, fits_places, fits_length, answer_refusal, replied, accept}
 use Rattle.factory.specs.declared.alm_factory.Sizes.{Sizes}
@@ -185,6 +186,10 @@ module _ (p q xs ys : List Float) where
 
   pub placed_not_second : length xs ≡ length p → (length ys ≡ length q → ⊥) → Placed p q xs xs ys ys 8
   placed_not_second a b = record { number = rw (eq-eqb (length xs) _ a, ne_eqb (length ys) _ b); kept = λ i z. (refl, refl); points = λ z. absurd (omega arith) }
+
+-- placed from the slices of two arrays
+pub placed_firsts : (n m : ℕ) (p q xs xs' ys ys' : List Float) (k : ℕ) → n ≤ length p → m ≤ length q → Placed (take n p) (take m q) xs xs' ys ys' k → Placed (firsts n p) (firsts m q) xs xs' ys ys' k
+placed_firsts n m p q xs xs' ys ys' k h h' g = rw (firsts_take n p h, firsts_take m q h') g
 
 module _ {H : Type 0} (p : Process PsiQuestion H) (xs xs' ys ys' : List Float) (r : ℕ) where
   -- the points of the question that a run asks
