@@ -1,56 +1,56 @@
 // The handlers of the loop's own questions.
-// The vectors are lent one by one, as C lends them, and a handler takes those that it needs: the others stay as they were.
 #![tactic(auto)]
 
-ghost use Rattle.std.specs.Prelude.{◌≡◌, true, [], length};
+ghost use Rattle.std.specs.Prelude.{◌≡◌, ◌∷◌, true, [], length};
 ghost use Rattle.model.specs.Loop as L;
 ghost use Rattle.panoc_core.specs.Told.{told};
 ghost use Rattle.panoc_core.specs.Values.{decided};
 ghost use Rattle.alm_core.specs.Rest.{LoopBoard, sized};
-ghost use Rattle.alm_core.specs.Board.{Ready, Takes, status_at, set_of, set_y, set_y_plus, set_w, five, six};
+ghost use Rattle.alm_core.specs.Board.{Ready, Takes, status_at, set_of, set_y};
+ghost use Rattle.alm_core.specs.LentLoop.{own_held, own_left, Only, U, Scratch, Y, Plus, W};
 ghost use Rattle.panoc_core.specs.declared.panoc_cache.Reply.TheVariants.{Vector, Number};
 
 use alm_core::alm_cache::{
     Alm, AlmNumbers, AlmOptimizerStatus, AlmOutcome, AlmPhase, AlmQuestion, AlmStepped,
 };
 use alm_core::alm_steps::{conclude, to};
+use alm_core::lent::{OuterVectors, OwnVectors};
 use alm_iterations::{inner_solve, iteration};
 use alm_weigh::{ask_f2, weigh};
 use panoc_core::outcome::Refusal;
 use panoc_core::panoc_cache::ExitStatus;
 
 // F2 at the plan is v.
-pub fn on_f2(
-    s: Alm,
-    v: &[f64],
-    u: &mut [f64; 64],
-    scratch: &mut [f64; 64],
-    best: &[f64; 64],
-    y: &mut [f64; 64],
-    plus: &[f64; 64],
-) -> AlmStepped
+pub fn on_f2<'a>(s: Alm, v: &[f64], at: OwnVectors<'a>) -> AlmStepped
     requires { (Ready s) × (s.phase ≡ AlmPhase.F2) × (length v.now ≡ s.set.n2) }
-    ensures { (b : LoopBoard) → Takes s (five u.old scratch.old best.now y.old plus.now b) Vector v.now (told result) (five u.new scratch.new best.now y.new plus.now b) }
+    ensures goes { (b : LoopBoard) → Takes s (own_held at.entry b) Vector v.now (told result) (own_left at.exit b) }
+    ensures vectors { Only (U ∷ Scratch ∷ Y ∷ []) at.entry at.exit }
 {
+    let OwnVectors {
+        u,
+        scratch,
+        best,
+        y,
+        plus,
+        ..
+    } = at;
     vector_copies::take_into(v, scratch);
     let numbers = AlmNumbers {
         f2_norm_plus: matrix_operations::norm2(scratch, s.set.n2),
         ..s.numbers
     };
-    weigh(Alm { numbers, ..s }, u, best, y, plus)
+    // named, since a record with a vector lent on is not covered by the borrow checker as the last expression
+    let r = weigh(Alm { numbers, ..s }, OuterVectors { u, best, y, plus });
+    r
 }
 
 // F1 at the plan is v: the projection on C is asked at F1 + y / c.
-pub fn on_f1(
-    s: Alm,
-    v: &[f64],
-    y: &[f64; 64],
-    plus: &mut [f64; 64],
-    w: &mut [f64; 64],
-) -> AlmStepped
+pub fn on_f1<'a>(s: Alm, v: &[f64], at: OwnVectors<'a>) -> AlmStepped
     requires { (Ready s) × (s.phase ≡ AlmPhase.F1) × (length v.now ≡ s.set.n1) }
-    ensures { (b : LoopBoard) → Takes s (set_y y.now (set_y_plus plus.old (set_w w.old b))) Vector v.now (told result) (set_y y.now (set_y_plus plus.new (set_w w.new b))) }
+    ensures goes { (b : LoopBoard) → Takes s (own_held at.entry b) Vector v.now (told result) (own_left at.exit b) }
+    ensures vectors { Only (Plus ∷ W ∷ []) at.entry at.exit }
 {
+    let OwnVectors { y, plus, w, .. } = at;
     vector_copies::take_into(v, w);
     vector_updates::plus_over_into(s.numbers.penalty, w, y, plus, s.set.n1);
     to(
@@ -61,26 +61,28 @@ pub fn on_f1(
 }
 
 // The projection on C is v: y_plus = y + c × (F1 - v), and its distance from y.
-pub fn on_project_c(
-    s: Alm,
-    v: &[f64],
-    u: &mut [f64; 64],
-    scratch: &mut [f64; 64],
-    best: &[f64; 64],
-    y: &mut [f64; 64],
-    plus: &mut [f64; 64],
-    w: &[f64; 64],
-) -> AlmStepped
+pub fn on_project_c<'a>(s: Alm, v: &[f64], at: OwnVectors<'a>) -> AlmStepped
     requires { (Ready s) × (s.phase ≡ AlmPhase.ProjectC) × (length v.now ≡ s.set.n1) }
-    ensures { (b : LoopBoard) → Takes s (six u.old scratch.old best.now y.old plus.old w.now b) Vector v.now (told result) (six u.new scratch.new best.now y.new plus.new w.now b) }
+    ensures goes { (b : LoopBoard) → Takes s (own_held at.entry b) Vector v.now (told result) (own_left at.exit b) }
+    ensures vectors { Only (U ∷ Scratch ∷ Y ∷ Plus ∷ []) at.entry at.exit }
 {
+    let OwnVectors {
+        u,
+        scratch,
+        best,
+        y,
+        plus,
+        w,
+    } = at;
     vector_copies::take_into(v, scratch);
     multiplier_updates::multipliers_into(s.numbers.penalty, y, w, scratch, plus, s.set.n1);
     let numbers = AlmNumbers {
         delta_y_norm_plus: matrix_operations::norm2_diff(plus, y, s.set.n1),
         ..s.numbers
     };
-    ask_f2(Alm { numbers, ..s }, u, best, y, plus)
+    // named, as in `on_f2`
+    let r = ask_f2(Alm { numbers, ..s }, OuterVectors { u, best, y, plus });
+    r
 }
 
 // The projection of y on Y is v.

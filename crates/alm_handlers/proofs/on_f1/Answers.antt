@@ -1,6 +1,6 @@
 use Rattle.std.proofs.Common.{arith}
 use Rattle.alm_core.specs.Laws.{sized_n1, f1_goes}
-use Rattle.alm_core.specs.Board.{set_y, set_y_plus, set_w}
+use Rattle.alm_core.specs.LentLoop.{own_held}
 use Rattle.alm_handlers.proofs.on_f1.Goals as goal
 
 pub take_into-requires : goal.take_into-requires
@@ -9,5 +9,5 @@ take_into-requires c = omega (arith, sized_n1 c.args.s c.requires.0.0, c.require
 pub plus_over_into-requires : goal.plus_over_into-requires
 plus_over_into-requires c = omega (arith, sized_n1 c.args.s c.requires.0.0)
 
-pub returns : goal.returns
-returns c = λ b. f1_goes c.args.s (set_y c.args.y.now (set_y_plus c.args.plus.now (set_w c.args.w.now b))) _ c.requires.0 _ _ _ c.requires.1 c.requires.2 c.take_into.ensures c.plus_over_into.ensures c.to.ensures
+pub returns-clause-goes : goal.returns-clause-goes
+returns-clause-goes c = λ b. f1_goes c.args.s (own_held c.args.at b) _ c.requires.0 _ _ _ c.requires.1 c.requires.2 c.take_into.ensures c.plus_over_into.ensures c.to.ensures

@@ -1,6 +1,6 @@
 use Rattle.std.proofs.Common.{arith}
 use Rattle.alm_core.specs.Laws.{sized_n2, norm_ready, f2_every}
-use Rattle.alm_core.specs.Board.{five}
+use Rattle.alm_core.specs.LentLoop.{own_held}
 use Rattle.alm_handlers.proofs.on_f2.Goals as goal
 
 pub take_into-requires : goal.take_into-requires
@@ -9,8 +9,8 @@ take_into-requires c = omega (arith, sized_n2 c.args.s c.requires.0.0, c.require
 pub norm2-requires : goal.norm2-requires
 norm2-requires c = omega (arith, sized_n2 c.args.s c.requires.0.0)
 
-pub weigh-requires : goal.weigh-requires
-weigh-requires c = norm_ready c.args.s _ c.requires.0
+pub weigh-r-requires : goal.weigh-r-requires
+weigh-r-requires c = norm_ready c.args.s _ c.requires.0
 
-pub returns : goal.returns
-returns c = λ b. f2_every c.args.s (five c.args.u.now c.args.scratch.now c.args.best.now c.args.y.now c.args.plus.now b) _ c.requires.0 _ _ _ _ _ c.requires.1 c.requires.2 c.take_into.ensures c.norm2.ensures c.weigh.ensures
+pub returns-clause-goes : goal.returns-clause-goes
+returns-clause-goes c = λ b. f2_every c.args.s (own_held c.args.at b) _ c.requires.0 _ _ _ _ _ c.requires.1 c.requires.2 c.take_into.ensures c.norm2.ensures c.weigh-r.ensures

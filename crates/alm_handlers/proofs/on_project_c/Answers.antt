@@ -1,6 +1,6 @@
 use Rattle.std.proofs.Common.{arith}
 use Rattle.alm_core.specs.Laws.{sized_n1, delta_ready, c_every}
-use Rattle.alm_core.specs.Board.{six}
+use Rattle.alm_core.specs.LentLoop.{own_held}
 use Rattle.alm_handlers.proofs.on_project_c.Goals as goal
 
 pub take_into-requires : goal.take_into-requires
@@ -12,8 +12,8 @@ multipliers_into-requires c = omega (arith, sized_n1 c.args.s c.requires.0.0)
 pub norm2_diff-requires : goal.norm2_diff-requires
 norm2_diff-requires c = omega (arith, sized_n1 c.args.s c.requires.0.0)
 
-pub ask_f2-requires : goal.ask_f2-requires
-ask_f2-requires c = delta_ready c.args.s _ c.requires.0
+pub ask_f2-r-requires : goal.ask_f2-r-requires
+ask_f2-r-requires c = delta_ready c.args.s _ c.requires.0
 
-pub returns : goal.returns
-returns c = λ b. c_every c.args.s (six c.args.u.now c.args.scratch.now c.args.best.now c.args.y.now c.args.plus.now c.args.w.now b) _ c.requires.0 _ _ _ _ _ _ c.requires.1 c.requires.2 c.take_into.ensures c.multipliers_into.ensures c.norm2_diff.ensures c.ask_f2.ensures
+pub returns-clause-goes : goal.returns-clause-goes
+returns-clause-goes c = λ b. c_every c.args.s (own_held c.args.at b) _ c.requires.0 _ _ _ _ _ _ c.requires.1 c.requires.2 c.take_into.ensures c.multipliers_into.ensures c.norm2_diff.ensures c.ask_f2-r.ensures
