@@ -7,12 +7,13 @@ use Rattle.ieee.specs.Sums.{squares}
 use Rattle.matrix_operations.specs.Firsts.{firsts}
 use Rattle.model.specs.Inner as I
 use Rattle.model.specs.Vectors.{minus, dot}
-use Rattle.panoc_core.specs.Board.{Board, Sound, Takes, Comes, Envelope, set_of, end_of, next_at, iterate_at, six, set_half}
-use Rattle.panoc_core.specs.Laws.{and_left, and_right, taken, tried_taken, tried_last}
+use Rattle.panoc_core.specs.Board.{Board, Sound, Takes, Comes, Onward, Envelope, run_of, set_of, end_of, next_at, iterate_at, state_at, set_u, set_half}
+use Rattle.panoc_core.specs.Laws.{and_left, and_right, taken, takes_vector}
+use Rattle.panoc_core.specs.Rest.{resume, retry_of}
 use Rattle.panoc_core.specs.declared.panoc_cache.Phase.TheVariants as P
 use Rattle.panoc_core.specs.declared.panoc_cache.Reply.TheVariants.{Vector}
 use Rattle.panoc_core.specs.declared.panoc_cache.Solve.{Solve}
-use Rattle.model.specs.State.{with_u}
+use Rattle.model.specs.State.{with_u, with_half, onto}
 use Rattle.image.specs.Image.{solve_of}
 use Rattle.panoc_search.specs.Laws.{envelope_at}
 use Rattle.panoc_core.specs.Values.{Step}
@@ -48,19 +49,48 @@ worse_rounds x y m t e q z = some_rounds (and_right (lt x y) (not (eqb m 0)) (sy
     some_rounds : not (eqb m 0) ≡ true → m ≡ 0 → ⊥
     some_rounds y z = omega (arith, ap {B = ℕ} (λ (c : Bool). cond c 1 0) (sym y ∙ ap not (eq-eqb m 0 z)))
 
--- a candidate that is not worse, or the last, is taken
-module _ (s : Solve) (b : Board) (ok : Sound s) (r : Step) (v h : List Float) (x : Float) (ph : s.phase ≡ P.TriedProject) (l : length v ≡ s.set.n) (hv : firsts (length v) h ≡ v) (xv : x ≡ I.envelope binary64 (iterate_at s (set_half h b))) (u p f w : List Float)
-    (c : (d : Board) → Comes s.set (I.onward binary64 (set_of s) (end_of s) (next_at s) (with_u (firsts s.set.n b.plus) (iterate_at s (six b.u b.gradient b.previous h b.fpr b.best d)))) r (six u b.gradient p h f w d)) where
-  pub tried_takes : (t : Bool) → t ≡ (lt s.numbers.rhs_ls x && not (eqb s.rounds 0)) → t ≡ false → Takes s b Vector v r (six u b.gradient p h f w b)
-  tried_takes t e q = by (lt s.numbers.rhs_ls x) refl (sym e ∙ q)
-    where
-      last : not (eqb s.rounds 0) ≡ false → s.rounds ≡ 0
-      last y = eqb-true s.rounds 0 (not_not (eqb s.rounds 0) y)
-        where
-          not_not : (a : Bool) → not a ≡ false → a ≡ true
-          not_not true z = refl
-          not_not false z = sym z
+-- PROJECT of a candidate gave v, and h is the half step now
+module _ (s : Solve) (b b' : Board) (ok : Sound s) (r : Step) (v h : List Float) (x : Float) (ph : s.phase ≡ P.TriedProject) (l : length v ≡ s.set.n) (hv : firsts (length v) h ≡ v) (xv : x ≡ I.envelope binary64 (iterate_at s (set_half h b))) where
+  half_is : firsts s.set.n h ≡ v
+  half_is = taken s.set.n v h l hv
 
-      by : (a : Bool) → lt s.numbers.rhs_ls x ≡ a → (a && not (eqb s.rounds 0)) ≡ false → Takes s b Vector v r (six u b.gradient p h f w b)
-      by true a' y = tried_last s b ok r v h x ph l hv xv u p f w c a' (last y)
-      by false a' y = tried_taken s b ok r v h x ph l hv xv u p f w c a'
+  value_is : x ≡ I.envelope binary64 (with_half v (iterate_at s b))
+  value_is = xv ∙ ap (λ (z : List Float). I.envelope binary64 (with_half z (iterate_at s b))) half_is
+
+  -- a worse one: another is tried
+  pub tried_worse : lt s.numbers.rhs_ls x ≡ true → Comes s.set (retry_of (run_of s (set_half h b)) (firsts s.set.n b.plus) (state_at s (set_half h b))) r b' → Takes s b Vector v r b'
+  unfolding resume I.tried_project
+  tried_worse q c =
+      takes_vector s b b' r ok P.TriedProject ph _ _ _ v refl
+      (rw (← value_is, q) (subst (λ (z : List Float). Comes s.set (retry_of (run_of s b) (firsts s.set.n b.plus) (onto (with_half z (iterate_at s b)) (state_at s b))) r b') half_is c))
+
+  -- one that is not worse, or the last: it is taken
+  module _ (c : Onward s (set_u b.plus (set_half h b)) r b') where
+    onward_is : Comes s.set (I.onward binary64 (set_of s) (end_of s) (next_at s) (with_u (firsts s.set.n b.plus) (with_half v (iterate_at s b)))) r b'
+    onward_is =
+        subst (λ (z : List Float). Comes s.set (I.onward binary64 (set_of s) (end_of s) (next_at s) (with_u (firsts s.set.n b.plus) (with_half z (iterate_at s b)))) r b') half_is c
+
+    not_worse : lt s.numbers.rhs_ls x ≡ false → Takes s b Vector v r b'
+    unfolding resume I.tried_project
+    not_worse q = takes_vector s b b' r ok P.TriedProject ph _ _ _ v refl (rw (← value_is, q) onward_is)
+
+    last : lt s.numbers.rhs_ls x ≡ true → s.rounds ≡ 0 → Takes s b Vector v r b'
+    unfolding resume I.tried_project I.retry
+    last q z =
+        takes_vector s b b' r ok P.TriedProject ph _ _ _ v refl
+        (rw (← value_is, q)
+        (subst (λ (m : ℕ). Comes s.set (I.retry binary64 (set_of s) m (end_of s) (next_at s) s.numbers.tau s.numbers.rhs_ls (firsts s.set.n b.direction) (firsts s.set.n b.plus) (onto (with_half v (iterate_at s b)) (state_at s b))) r b') (sym z) onward_is))
+
+    pub tried_takes : (t : Bool) → t ≡ (lt s.numbers.rhs_ls x && not (eqb s.rounds 0)) → t ≡ false → Takes s b Vector v r b'
+    tried_takes t e q = by (lt s.numbers.rhs_ls x) refl (sym e ∙ q)
+      where
+        none_left : not (eqb s.rounds 0) ≡ false → s.rounds ≡ 0
+        none_left y = eqb-true s.rounds 0 (not_not (eqb s.rounds 0) y)
+          where
+            not_not : (a : Bool) → not a ≡ false → a ≡ true
+            not_not true z = refl
+            not_not false z = sym z
+
+        by : (a : Bool) → lt s.numbers.rhs_ls x ≡ a → (a && not (eqb s.rounds 0)) ≡ false → Takes s b Vector v r b'
+        by true a' y = last a' (none_left y)
+        by false a' y = not_worse a'

@@ -1,10 +1,11 @@
 // PROJECT's answers after a move: the iterate or the candidate is taken, or another candidate is tried.
 #![tactic(auto)]
 
-ghost use Rattle.std.specs.Prelude.{◌≡◌, length, get_or};
-ghost use Rattle.panoc_core.specs.Board.{Board, Sound, Takes, six, nine};
-ghost use Rattle.image.specs.Image.{phase_of, solve_of, step_of};
+ghost use Rattle.std.specs.Prelude.{◌≡◌, ◌∷◌, [], length};
+ghost use Rattle.panoc_core.specs.Board.{Sound, Takes};
+ghost use Rattle.image.specs.LentRun.{small, gives, phase_in, places_in, held, left, Only, U, Plus, Previous, Half, Fpr, Best};
 
+use image::lent::{Lent, Vectors};
 use image::places::{COST, GAMMA, N, RHS, ROUNDS};
 use panoc_candidate::take_candidate;
 use panoc_core::lipschitz_estimator::envelope;
@@ -13,57 +14,61 @@ use panoc_search::{try_again, worse};
 use panoc_steps::onward;
 
 // PROJECT of the first iterate gave v.
-pub fn on_first_project(
-    v: &[f64],
-    w: &mut [u32; 6],
-    k: &mut [usize; 6],
-    f: &mut [f64; 13],
-    u: &[f64; 64],
-    gradient: &[f64; 64],
-    previous: &mut [f64; 64],
-    half: &mut [f64; 64],
-    fpr: &mut [f64; 64],
-    best: &mut [f64; 64],
-) -> Outcome
-    requires { (Sound (solve_of w.old k.old f.old)) × (phase_of (get_or w.old 0 0) ≡ Phase.FirstProject) × (length v.now ≡ get_or k.old 3 0) }
-    ensures { (b : Board) → Takes (solve_of w.old k.old f.old) (six u.now gradient.now previous.old half.old fpr.old best.old b) Reply.Vector v.now (step_of result w.new k.new f.new) (six u.now gradient.now previous.new half.new fpr.new best.new b) }
+pub fn on_first_project<'a>(v: &[f64], run: Lent<'a>, at: Vectors<'a>) -> Outcome
+    requires { (Sound (small run)) × (phase_in run ≡ Phase.FirstProject) × (length v.now ≡ places_in run) }
+    ensures goes { Takes (small run.entry) (held at.entry) Reply.Vector v.now (gives result run.exit) (left at.exit) }
+    ensures vectors { Only (Previous ∷ Half ∷ Fpr ∷ Best ∷ []) (held at.entry) (left at.exit) }
 {
-    vector_copies::take_into(v, half);
-    let sums = residual_sums::residual_into(u, half, gradient, fpr, k[N]);
-    onward(
-        sums.norm,
-        sums.product,
-        w,
-        k,
-        f,
+    let Lent { w, k, f } = run;
+    let Vectors {
         u,
+        plus,
         gradient,
         previous,
+        step,
         half,
         fpr,
+        direction,
         best,
-    )
+    } = at;
+    vector_copies::take_into(v, half);
+    let sums = residual_sums::residual_into(u, half, gradient, fpr, k[N]);
+    return onward(
+        sums.norm,
+        sums.product,
+        Lent { w, k, f },
+        Vectors {
+            u,
+            plus,
+            gradient,
+            previous,
+            step,
+            half,
+            fpr,
+            direction,
+            best,
+        },
+    );
 }
 
 // PROJECT of a candidate gave v: another candidate, or this one is taken.
-pub fn on_tried_project(
-    v: &[f64],
-    w: &mut [u32; 6],
-    k: &mut [usize; 6],
-    f: &mut [f64; 13],
-    u: &mut [f64; 64],
-    plus: &mut [f64; 64],
-    gradient: &[f64; 64],
-    previous: &mut [f64; 64],
-    step: &[f64; 64],
-    half: &mut [f64; 64],
-    fpr: &mut [f64; 64],
-    direction: &[f64; 64],
-    best: &mut [f64; 64],
-) -> Outcome
-    requires { (Sound (solve_of w.old k.old f.old)) × (phase_of (get_or w.old 0 0) ≡ Phase.TriedProject) × (length v.now ≡ get_or k.old 3 0) }
-    ensures { Takes (solve_of w.old k.old f.old) (nine u.old plus.old gradient.now previous.old step.now half.old fpr.old direction.now best.old) Reply.Vector v.now (step_of result w.new k.new f.new) (nine u.new plus.new gradient.now previous.new step.now half.new fpr.new direction.now best.new) }
+pub fn on_tried_project<'a>(v: &[f64], run: Lent<'a>, at: Vectors<'a>) -> Outcome
+    requires { (Sound (small run)) × (phase_in run ≡ Phase.TriedProject) × (length v.now ≡ places_in run) }
+    ensures goes { Takes (small run.entry) (held at.entry) Reply.Vector v.now (gives result run.exit) (left at.exit) }
+    ensures vectors { Only (U ∷ Plus ∷ Previous ∷ Half ∷ Fpr ∷ Best ∷ []) (held at.entry) (left at.exit) }
 {
+    let Lent { w, k, f } = run;
+    let Vectors {
+        u,
+        plus,
+        gradient,
+        previous,
+        step,
+        half,
+        fpr,
+        direction,
+        best,
+    } = at;
     let sums = candidate_sums::candidate_sums_into(v, gradient, step, plus, half);
     let value = envelope(
         f[COST],
@@ -71,22 +76,21 @@ pub fn on_tried_project(
         sums.gradient_squared,
         sums.distance_squared,
     );
-    if worse(f[RHS], value, k[ROUNDS]) {
-        try_again(w, k, f, u, plus, fpr, direction)
-    } else {
-        take_candidate(
-            sums.norm_squared,
-            sums.product,
-            w,
-            k,
-            f,
-            u,
-            plus,
-            gradient,
-            previous,
-            half,
-            fpr,
-            best,
-        )
+    let again = worse(f[RHS], value, k[ROUNDS]);
+    let run = Lent { w, k, f };
+    let at = Vectors {
+        u,
+        plus,
+        gradient,
+        previous,
+        step,
+        half,
+        fpr,
+        direction,
+        best,
+    };
+    if again {
+        return try_again(run, at);
     }
+    return take_candidate(sums.norm_squared, sums.product, run, at);
 }
