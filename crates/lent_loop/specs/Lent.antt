@@ -1,14 +1,24 @@
 -- What an accepted answer to a loop on lent numbers comes to. Definitions only.
-use Rattle.std.specs.Prelude.{◌≡◌, List, Float, length}
+use Rattle.std.specs.Prelude.{◌≡◌, ◌≤◌, List, Float, length, get_or}
 use Rattle.model.specs.Process as M
 use Rattle.model.specs.Refusals.{answer_refusal}
+use Rattle.panoc_core.specs.declared.outcome.Outcome.{Outcome}
+use Rattle.panoc_core.specs.declared.panoc_cache.Question.{Question}
 use Rattle.panoc_core.specs.declared.panoc_cache.Reply.{Reply}
+use Rattle.panoc_core.specs.declared.panoc_cache.SolverStatus.{SolverStatus}
+use Rattle.panoc_core.specs.Told.{numbered}
 use Rattle.panoc_core.specs.Values as Inner
 use Rattle.panoc_core.specs.Board as InnerBoard
+use Rattle.panoc_core.specs.Board.{Lent}
 use Rattle.alm_core.specs.declared.alm_cache.Alm.{Alm}
 use Rattle.alm_core.specs.Rest.{LoopBoard}
-use Rattle.alm_core.specs.Board.{Carries, four}
-use Rattle.alm_calls.specs.LoopCalls.{wanted_of, lent_right}
+use Rattle.alm_core.specs.Board.{Carries, Ready, EndsWithin, four}
+use Rattle.alm_core.specs.LentLoop.{OuterLeft}
+use Rattle.alm_core.specs.declared.lent.OuterVectors.{OuterVectors}
+use Rattle.alm_calls.specs.LoopCalls.{Answers, run_of, gave, wanted_of, lent_right}
+use Rattle.image.specs.Image as I
+use Rattle.alm_image.specs.LentLoop.{loop_held}
+use Rattle.alm_image.specs.declared.records.LoopLent.{LoopLent}
 use Rattle.lent_places.specs.Handing.{HandsOut}
 use Rattle.panoc_core.specs.Values.{Step}
 use Rattle.alm_core.specs.Values.{LoopStep}
@@ -27,3 +37,27 @@ pub record Reached (s : Alm) (x : Step) (u best : List Float) : Type 0 where
 pub record Carried (s : Alm) (x : Step) (o : LoopStep) (u best y plus u' y' us ws xs zs : List Float) : Type 0 where
   pub carries : (c : LoopBoard) → Carries s x (four u best y plus c) o (four u' best y' plus c)
   pub hands : HandsOut o u' plus us ws xs zs
+
+-- ---- the same of lent numbers; plan and xi are the lent u and xi
+
+-- what the inner solve gave, o being its result
+abbrev pub inner_gave : Outcome Question SolverStatus → LoopLent → Step
+inner_gave o run = I.step_of o run.w.now run.k.now run.f.now
+
+-- the loop has asked by its inner solve, which gave o
+abbrev pub MayCarry : Outcome Question SolverStatus → LoopLent → OuterVectors → List Float → List Float → Type 0
+MayCarry o run at us xs =
+    (length us ≤ 64) × (length xs ≤ 33) × (get_or run.lw.now 0 0 ≡ 3) × (Ready (loop_held run)) × (get_or run.k.now 3 0 ≡ get_or run.lk.now 4 0) × (EndsWithin (numbered o)) × (Reached (loop_held run) (inner_gave o run) at.u.now at.best.now)
+
+-- o is carried out, and t is told
+abbrev pub CarriesOut : Outcome Question SolverStatus → LoopLent → OuterVectors → Lent → Lent → LoopStep → OuterLeft → Type 0
+CarriesOut o run at plan xi t end =
+    Carried (loop_held run) (inner_gave o run) t at.u.now at.best.now at.y.now at.plus.now end.0.now end.1.1.0.now plan.entry.now plan.exit.now xi.entry.now xi.exit.now
+
+-- the loop asks by itself
+abbrev pub AsksItself : LoopLent → Type 0
+AsksItself run = get_or run.lw.now 0 0 ≡ 3 → ⊥
+
+-- the answer a, with the vector v beside it, to a run with the vectors b: t is told, and the vectors are c
+abbrev pub AnswersLent : Reply → List Float → LoopLent → LoopBoard → Lent → Lent → LoopStep → LoopBoard → Type 0
+AnswersLent a v run b plan xi t c = Answers (run_of (loop_held run) b) a v plan.entry.now plan.exit.now xi.entry.now xi.exit.now (gave t c)
