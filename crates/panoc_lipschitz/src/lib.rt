@@ -1,10 +1,8 @@
 // The doubling of L, and the question for a DIRECTION.
 #![tactic(auto)]
 
-ghost use Rattle.std.specs.Float.{binary64};
-ghost use Rattle.model.specs.Inner as I;
-ghost use Rattle.panoc_core.specs.Board.{Board, Sound, Comes, set_of, end_of, next_at, state_at};
-ghost use Rattle.panoc_core.specs.Rest.{doubling_at};
+ghost use Rattle.panoc_core.specs.Board.{Board, Sound};
+ghost use Rattle.panoc_lipschitz.specs.Doubling.{AsksDirection, Doubles};
 ghost use Rattle.image.specs.LentRun.{small, gives, SameCounts, costs_held, costs_left, SameResidual};
 
 use image::kinds::flag_of;
@@ -18,7 +16,7 @@ use panoc_core::panoc_cache::{Outcome, Phase, Question};
 // σ again, and DIRECTION, which says whether to forget.
 pub fn ask_direction<'a>(run: Lent<'a>) -> Outcome
     requires { Sound (small run) }
-    ensures goes { (b : Board) → let s = small run.entry in Comes s.set (I.ask_direction binary64 (set_of s) (end_of s) (next_at s) s.forget (state_at s b)) (gives result run.exit) b }
+    ensures goes { (b : Board) → AsksDirection (small run.entry) b (gives result run.exit) b }
     ensures counts { SameCounts run.entry run.exit }
 {
     let Lent { w, f, .. } = run;
@@ -30,7 +28,7 @@ pub fn ask_direction<'a>(run: Lent<'a>) -> Outcome
 // The doubling: another round while the half step's cost exceeds its ceiling, which is kept among the numbers, else DIRECTION.
 pub fn update_lipschitz_constant<'a>(cost: f64, run: Lent<'a>, at: CostVectors<'a>) -> Outcome
     requires { Sound (small run) }
-    ensures goes { (b : Board) → let s = small run.entry in Comes s.set (doubling_at (set_of s) (end_of s) (next_at s) s.rounds s.forget s.numbers.rhs_ls (state_at s (costs_held at.entry b)) cost) (gives result run.exit) (costs_left at.exit b) }
+    ensures goes { (b : Board) → Doubles (small run.entry) (costs_held at.entry b) cost (gives result run.exit) (costs_left at.exit b) }
     ensures vectors { SameResidual at.entry at.exit }
 {
     let rounds = run.k[ROUNDS];

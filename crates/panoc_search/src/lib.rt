@@ -2,12 +2,9 @@
 #![tactic(auto)]
 
 ghost use Rattle.std.specs.Prelude.{◌≡◌, ◌∷◌, ◌&&◌, not, [], eqb, length};
-ghost use Rattle.std.specs.Float.{binary64};
 ghost use Rattle.std.specs.Float.Ieee.{lt};
-ghost use Rattle.matrix_operations.specs.Firsts.{firsts};
-ghost use Rattle.model.specs.Inner as I;
-ghost use Rattle.panoc_core.specs.Board.{Board, Sound, Takes, Comes, set_of, end_of, next_at, state_at, run_of};
-ghost use Rattle.panoc_core.specs.Rest.{retry_of};
+ghost use Rattle.panoc_core.specs.Board.{Board, Sound, Takes};
+ghost use Rattle.panoc_search.specs.Moves.{Searches, Retries};
 ghost use Rattle.image.specs.LentRun.{small, gives, phase_in, places_in, held, left, Only, SameCounts, SameFloats, Plus, Gradient, Step, Direction};
 
 use image::lent::{Lent, Vectors};
@@ -21,7 +18,7 @@ use panoc_core::panoc_cache::{Outcome, Phase, Question, Reply};
 // A later step's move begins: what a candidate is held to, and the candidate for τ = 1.
 pub fn linesearch<'a>(v: &[f64], run: Lent<'a>, at: Vectors<'a>) -> Outcome
     requires { (Sound (small run)) × (length v.now ≡ places_in run) }
-    ensures goes { let s = small run.entry in Comes s.set (I.search binary64 (set_of s) (end_of s) (next_at s) (state_at s (held at.entry)) v.now) (gives result run.exit) (left at.exit) }
+    ensures goes { Searches (small run.entry) (held at.entry) v.now (gives result run.exit) (left at.exit) }
     ensures vectors { Only (Plus ∷ Direction ∷ []) (held at.entry) (left at.exit) }
 {
     let Lent { w, k, f } = run;
@@ -90,7 +87,7 @@ pub fn worse(rhs: f64, value: f64, rounds: usize) -> bool
 // Another candidate, with half the τ.
 pub fn try_again<'a>(run: Lent<'a>, at: Vectors<'a>) -> Outcome
     requires { (Sound (small run)) × ((small run).rounds ≡ 0 → ⊥) }
-    ensures goes { let s = small run.entry in Comes s.set (retry_of (run_of s (held at.entry)) (firsts s.set.n (held at.entry).plus) (state_at s (held at.entry))) (gives result run.exit) (left at.exit) }
+    ensures goes { Retries (small run.entry) (held at.entry) (gives result run.exit) (left at.exit) }
     ensures vectors { Only (Plus ∷ []) (held at.entry) (left at.exit) }
 {
     let Lent { w, k, f } = run;
