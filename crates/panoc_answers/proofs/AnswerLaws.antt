@@ -10,7 +10,7 @@ use lib.Dec.{eqb}
 use lib.Ieee.{Float}
 use lib.ListN.{length}
 use Rattle.matrix_operations.specs.Firsts.{firsts}
-use Rattle.model.specs.Process.{Kind, refused}
+use Rattle.model.specs.Process.{Kind}
 use Rattle.model.specs.Refusals as R
 use Rattle.model.specs.Refusals.{answer_refusal, wanted}
 use Rattle.panoc_core.specs.Told as O

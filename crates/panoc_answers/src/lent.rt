@@ -1,13 +1,14 @@
-// An answer to a lent run, by the kind of reply and then by the phase: each arm is another handler with other vectors, so a table is no plainer.
-ghost use Rattle.std.specs.Prelude.{◌≡◌, true, [], length, get_or};
+// An answer to a lent run, by the kind of reply and then by the phase: each arm is another handler, so a table is no plainer.
+ghost use Rattle.std.specs.Prelude.{◌≡◌, ◌∷◌, true, [], length};
 ghost use Rattle.std.proofs.Math.Option.{some};
 ghost use Rattle.model.specs.Process.{Kind};
 ghost use Rattle.model.specs.Refusals.{answer_refusal};
 ghost use Rattle.panoc_core.specs.Values.{reply_of, decided};
-ghost use Rattle.panoc_core.specs.Board.{Board, Takes, wanted_of, wants_vector, six, before, after};
-ghost use Rattle.image.specs.Image.{solve_of, step_of};
+ghost use Rattle.panoc_core.specs.Board.{Takes, wanted_of, wants_vector};
+ghost use Rattle.image.specs.LentRun.{small, gives, places_in, held, left, Only, SameCounts, Previous, Fpr, Best};
 
 use image::kinds::phase_of;
+use image::lent::{CostVectors, Lent, Vectors};
 use image::places::PHASE;
 use image_moves::fail;
 use panoc_core::panoc_cache::{Outcome, Phase, Reply};
@@ -21,86 +22,65 @@ use panoc_search::on_tried_gradient;
 use panoc_steps::timed;
 
 // A vector that was asked for.
-pub fn on_vector(
-    v: &[f64],
-    w: &mut [u32; 6],
-    k: &mut [usize; 6],
-    f: &mut [f64; 13],
-    u: &mut [f64; 64],
-    plus: &mut [f64; 64],
-    gradient: &mut [f64; 64],
-    previous: &mut [f64; 64],
-    step: &mut [f64; 64],
-    half: &mut [f64; 64],
-    fpr: &mut [f64; 64],
-    direction: &mut [f64; 64],
-    best: &mut [f64; 64],
-) -> Outcome
-    requires { (wants_vector (wanted_of (solve_of w.old k.old f.old)) ≡ true) × (length v.now ≡ get_or k.old 3 0) }
-    ensures { Takes (solve_of w.old k.old f.old) (before u plus gradient previous step half fpr direction best) Reply.Vector v.now (step_of result w.new k.new f.new) (after u plus gradient previous step half fpr direction best) }
+pub fn on_vector<'a>(v: &[f64], run: Lent<'a>, at: Vectors<'a>) -> Outcome
+    requires { (wants_vector (wanted_of (small run)) ≡ true) × (length v.now ≡ places_in run) }
+    ensures { Takes (small run.entry) (held at.entry) Reply.Vector v.now (gives result run.exit) (left at.exit) }
 {
-    match phase_of(w[PHASE]) {
-        Phase::Gradient => on_gradient(v, w, k, f, u, gradient),
-        Phase::Shifted => on_shifted(v, w, k, f, u, gradient, step),
-        Phase::Project => on_project(v, w, k, f, u, gradient, previous, half, fpr, best),
-        Phase::DoubledProject => on_doubled_project(v, w, k, f, half),
-        Phase::Direction => on_direction(v, w, k, f, u, plus, gradient, step, half, fpr, direction),
-        Phase::FirstGradient => on_first_gradient(v, w, k, f, u, gradient, step),
-        Phase::FirstProject => on_first_project(v, w, k, f, u, gradient, previous, half, fpr, best),
-        Phase::TriedGradient => on_tried_gradient(v, w, k, f, plus, gradient, step),
-        Phase::TriedProject => on_tried_project(
-            v, w, k, f, u, plus, gradient, previous, step, half, fpr, direction, best,
-        ),
+    match phase_of(run.w[PHASE]) {
+        Phase::Gradient => on_gradient(v, run, at),
+        Phase::Shifted => on_shifted(v, run, at),
+        Phase::Project => on_project(v, run, at),
+        Phase::DoubledProject => on_doubled_project(v, run, at),
+        Phase::Direction => on_direction(v, run, at),
+        Phase::FirstGradient => on_first_gradient(v, run, at),
+        Phase::FirstProject => on_first_project(v, run, at),
+        Phase::TriedGradient => on_tried_gradient(v, run, at),
+        Phase::TriedProject => on_tried_project(v, run, at),
         _ => unreachable!(),
     }
 }
 
 // A yes or no that was asked for.
-pub fn on_decision(
-    yes: bool,
-    w: &mut [u32; 6],
-    k: &[usize; 6],
-    f: &mut [f64; 13],
-    u: &[f64; 64],
-    gradient: &[f64; 64],
-    previous: &mut [f64; 64],
-    half: &[f64; 64],
-    fpr: &mut [f64; 64],
-    best: &mut [f64; 64],
-) -> Outcome
-    requires { wanted_of (solve_of w.old k.now f.old) ≡ some Kind.decision }
-    ensures { (b : Board) → Takes (solve_of w.old k.now f.old) (six u.now gradient.now previous.old half.now fpr.old best.old b) (decided yes) [] (step_of result w.new k.now f.new) (six u.now gradient.now previous.new half.now fpr.new best.new b) }
+pub fn on_decision<'a>(yes: bool, run: Lent<'a>, at: Vectors<'a>) -> Outcome
+    requires { wanted_of (small run) ≡ some Kind.decision }
+    ensures goes { Takes (small run.entry) (held at.entry) (decided yes) [] (gives result run.exit) (left at.exit) }
+    ensures vectors { Only (Previous ∷ Fpr ∷ Best ∷ []) (held at.entry) (left at.exit) }
+    ensures counts { SameCounts run.entry run.exit }
 {
-    timed(yes, w, k, f, u, gradient, previous, half, fpr, best)
+    timed(yes, run, at)
 }
 
 // An answer that nothing refuses. A plan stays in the best half step.
-pub fn take_lent(
-    a: Reply,
-    v: &[f64],
-    w: &mut [u32; 6],
-    k: &mut [usize; 6],
-    f: &mut [f64; 13],
-    u: &mut [f64; 64],
-    plus: &mut [f64; 64],
-    gradient: &mut [f64; 64],
-    previous: &mut [f64; 64],
-    step: &mut [f64; 64],
-    half: &mut [f64; 64],
-    fpr: &mut [f64; 64],
-    direction: &mut [f64; 64],
-    best: &mut [f64; 64],
-) -> Outcome
-    requires { answer_refusal (wanted_of (solve_of w.old k.old f.old)) (reply_of a) (length v.now) true ≡ 0 }
-    ensures { Takes (solve_of w.old k.old f.old) (before u plus gradient previous step half fpr direction best) a v.now (step_of result w.new k.new f.new) (after u plus gradient previous step half fpr direction best) }
+pub fn take_lent<'a>(a: Reply, v: &[f64], run: Lent<'a>, at: Vectors<'a>) -> Outcome
+    requires { answer_refusal (wanted_of (small run)) (reply_of a) (length v.now) true ≡ 0 }
+    ensures { Takes (small run.entry) (held at.entry) a v.now (gives result run.exit) (left at.exit) }
 {
     match a {
-        Reply::Number(x) => on_number(x, w, k, f, u, gradient, step, half, fpr),
-        Reply::Vector => on_vector(
-            v, w, k, f, u, plus, gradient, previous, step, half, fpr, direction, best,
-        ),
-        Reply::Yes => on_decision(true, w, k, f, u, gradient, previous, half, fpr, best),
-        Reply::No => on_decision(false, w, k, f, u, gradient, previous, half, fpr, best),
-        Reply::Failure(code) => fail(code, w),
+        Reply::Number(x) => {
+            let Lent { w, k, f } = run;
+            let Vectors {
+                u,
+                gradient,
+                step,
+                half,
+                fpr,
+                ..
+            } = at;
+            return on_number(
+                x,
+                Lent { w, k, f },
+                CostVectors {
+                    u,
+                    gradient,
+                    step,
+                    half,
+                    fpr,
+                },
+            );
+        }
+        Reply::Vector => on_vector(v, run, at),
+        Reply::Yes => on_decision(true, run, at),
+        Reply::No => on_decision(false, run, at),
+        Reply::Failure(code) => fail(code, run.w),
     }
 }

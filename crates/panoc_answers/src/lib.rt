@@ -5,40 +5,54 @@ ghost use Rattle.std.specs.Prelude.{◌≡◌, true, length};
 ghost use Rattle.model.specs.Refusals.{answer_refusal};
 ghost use Rattle.panoc_core.specs.Told.{told};
 ghost use Rattle.panoc_core.specs.Values.{reply_of};
-ghost use Rattle.panoc_core.specs.Board.{Takes, wanted_of, before, after};
+ghost use Rattle.panoc_core.specs.Board.{Takes, wanted_of};
+ghost use Rattle.image.specs.LentRun.{held, left};
 
 pub mod lent;
 
+use image::lent::{Lent, LentRead, Vectors};
 use image_solve::{solve_of, store};
+use lent::take_lent;
 use panoc_core::panoc_cache::{Reply, Solve, Stepped};
 
 // An answer that nothing refuses. A plan stays in the best half step.
-pub fn take(
-    s: Solve,
-    a: Reply,
-    v: &[f64],
-    u: &mut [f64; 64],
-    plus: &mut [f64; 64],
-    gradient: &mut [f64; 64],
-    previous: &mut [f64; 64],
-    step: &mut [f64; 64],
-    half: &mut [f64; 64],
-    fpr: &mut [f64; 64],
-    direction: &mut [f64; 64],
-    best: &mut [f64; 64],
-) -> Stepped
+pub fn take<'a>(s: Solve, a: Reply, v: &[f64], at: Vectors<'a>) -> Stepped
     requires { answer_refusal (wanted_of s) (reply_of a) (length v.now) true ≡ 0 }
-    ensures { Takes s (before u plus gradient previous step half fpr direction best) a v.now (told result) (after u plus gradient previous step half fpr direction best) }
+    ensures { Takes s (held at.entry) a v.now (told result) (left at.exit) }
 {
-    let mut w = [0; 6];
-    let mut k = [0; 6];
-    let mut f = [0.0; 13];
-    store(s, &mut w, &mut k, &mut f);
-    let outcome = lent::take_lent(
-        a, v, &mut w, &mut k, &mut f, u, plus, gradient, previous, step, half, fpr, direction, best,
+    let Vectors {
+        u,
+        plus,
+        gradient,
+        previous,
+        step,
+        half,
+        fpr,
+        direction,
+        best,
+    } = at;
+    let w = &mut [0; 6];
+    let k = &mut [0; 6];
+    let f = &mut [0.0; 13];
+    store(s, Lent { w, k, f });
+    let outcome = take_lent(
+        a,
+        v,
+        Lent { w, k, f },
+        Vectors {
+            u,
+            plus,
+            gradient,
+            previous,
+            step,
+            half,
+            fpr,
+            direction,
+            best,
+        },
     );
     Stepped {
         outcome,
-        state: solve_of(&w, &k, &f),
+        state: solve_of(LentRead { w, k, f }),
     }
 }

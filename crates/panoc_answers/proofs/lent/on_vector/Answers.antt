@@ -1,63 +1,62 @@
 use Rattle.panoc_core.specs.Wanted.{vector_sound}
 use Rattle.panoc_answers.proofs.Phases.{vector_phase}
-use Rattle.panoc_core.specs.Board.{nine}
-use Rattle.image.specs.Image.{solve_of}
+use Rattle.image.specs.LentRun.{small}
 use Rattle.std.proofs.Common.{sym, ◌∙◌}
 use Rattle.panoc_answers.proofs.lent.on_vector.Goals as goal
 
 pub on_gradient-requires : goal.on_gradient-requires
-on_gradient-requires c = (vector_sound (solve_of c.args.w.now c.args.k.now c.args.f.now) c.requires.0, (sym c.phase_of.ensures ∙ c.in-Gradient.is), c.requires.1)
+on_gradient-requires c = (vector_sound (small c.args.run) c.requires.0, (sym c.phase_of.ensures ∙ c.in-Gradient.is), c.requires.1)
 
 pub on_shifted-requires : goal.on_shifted-requires
-on_shifted-requires c = (vector_sound (solve_of c.args.w.now c.args.k.now c.args.f.now) c.requires.0, (sym c.phase_of.ensures ∙ c.in-Shifted.is), c.requires.1)
+on_shifted-requires c = (vector_sound (small c.args.run) c.requires.0, (sym c.phase_of.ensures ∙ c.in-Shifted.is), c.requires.1)
 
 pub on_project-requires : goal.on_project-requires
-on_project-requires c = (vector_sound (solve_of c.args.w.now c.args.k.now c.args.f.now) c.requires.0, (sym c.phase_of.ensures ∙ c.in-Project.is), c.requires.1)
+on_project-requires c = (vector_sound (small c.args.run) c.requires.0, (sym c.phase_of.ensures ∙ c.in-Project.is), c.requires.1)
 
 pub on_doubled_project-requires : goal.on_doubled_project-requires
-on_doubled_project-requires c = (vector_sound (solve_of c.args.w.now c.args.k.now c.args.f.now) c.requires.0, (sym c.phase_of.ensures ∙ c.in-DoubledProject.is), c.requires.1)
+on_doubled_project-requires c = (vector_sound (small c.args.run) c.requires.0, (sym c.phase_of.ensures ∙ c.in-DoubledProject.is), c.requires.1)
 
 pub on_direction-requires : goal.on_direction-requires
-on_direction-requires c = (vector_sound (solve_of c.args.w.now c.args.k.now c.args.f.now) c.requires.0, (sym c.phase_of.ensures ∙ c.in-Direction.is), c.requires.1)
+on_direction-requires c = (vector_sound (small c.args.run) c.requires.0, (sym c.phase_of.ensures ∙ c.in-Direction.is), c.requires.1)
 
 pub on_first_gradient-requires : goal.on_first_gradient-requires
-on_first_gradient-requires c = (vector_sound (solve_of c.args.w.now c.args.k.now c.args.f.now) c.requires.0, (sym c.phase_of.ensures ∙ c.in-FirstGradient.is), c.requires.1)
+on_first_gradient-requires c = (vector_sound (small c.args.run) c.requires.0, (sym c.phase_of.ensures ∙ c.in-FirstGradient.is), c.requires.1)
 
 pub on_first_project-requires : goal.on_first_project-requires
-on_first_project-requires c = (vector_sound (solve_of c.args.w.now c.args.k.now c.args.f.now) c.requires.0, (sym c.phase_of.ensures ∙ c.in-FirstProject.is), c.requires.1)
+on_first_project-requires c = (vector_sound (small c.args.run) c.requires.0, (sym c.phase_of.ensures ∙ c.in-FirstProject.is), c.requires.1)
 
 pub on_tried_gradient-requires : goal.on_tried_gradient-requires
-on_tried_gradient-requires c = (vector_sound (solve_of c.args.w.now c.args.k.now c.args.f.now) c.requires.0, (sym c.phase_of.ensures ∙ c.in-TriedGradient.is), c.requires.1)
+on_tried_gradient-requires c = (vector_sound (small c.args.run) c.requires.0, (sym c.phase_of.ensures ∙ c.in-TriedGradient.is), c.requires.1)
 
 pub on_tried_project-requires : goal.on_tried_project-requires
-on_tried_project-requires c = (vector_sound (solve_of c.args.w.now c.args.k.now c.args.f.now) c.requires.0, (sym c.phase_of.ensures ∙ c.in-TriedProject.is), c.requires.1)
+on_tried_project-requires c = (vector_sound (small c.args.run) c.requires.0, (sym c.phase_of.ensures ∙ c.in-TriedProject.is), c.requires.1)
 
 pub returns-in-Gradient : goal.returns-in-Gradient
-returns-in-Gradient c = c.on_gradient.ensures (nine c.args.u.now c.args.plus.now c.args.gradient.now c.args.previous.now c.args.step.now c.args.half.now c.args.fpr.now c.args.direction.now c.args.best.now)
+returns-in-Gradient c = c.on_gradient.ensures.goes
 
 pub returns-in-Shifted : goal.returns-in-Shifted
-returns-in-Shifted c = c.on_shifted.ensures (nine c.args.u.now c.args.plus.now c.args.gradient.now c.args.previous.now c.args.step.now c.args.half.now c.args.fpr.now c.args.direction.now c.args.best.now)
+returns-in-Shifted c = c.on_shifted.ensures.goes
 
 pub returns-in-Project : goal.returns-in-Project
-returns-in-Project c = c.on_project.ensures (nine c.args.u.now c.args.plus.now c.args.gradient.now c.args.previous.now c.args.step.now c.args.half.now c.args.fpr.now c.args.direction.now c.args.best.now)
+returns-in-Project c = c.on_project.ensures.goes
 
 pub returns-in-DoubledProject : goal.returns-in-DoubledProject
-returns-in-DoubledProject c = c.on_doubled_project.ensures (nine c.args.u.now c.args.plus.now c.args.gradient.now c.args.previous.now c.args.step.now c.args.half.now c.args.fpr.now c.args.direction.now c.args.best.now)
+returns-in-DoubledProject c = c.on_doubled_project.ensures.goes
 
 pub returns-in-Direction : goal.returns-in-Direction
-returns-in-Direction c = c.on_direction.ensures (nine c.args.u.now c.args.plus.now c.args.gradient.now c.args.previous.now c.args.step.now c.args.half.now c.args.fpr.now c.args.direction.now c.args.best.now)
+returns-in-Direction c = c.on_direction.ensures.goes
 
 pub returns-in-FirstGradient : goal.returns-in-FirstGradient
-returns-in-FirstGradient c = c.on_first_gradient.ensures (nine c.args.u.now c.args.plus.now c.args.gradient.now c.args.previous.now c.args.step.now c.args.half.now c.args.fpr.now c.args.direction.now c.args.best.now)
+returns-in-FirstGradient c = c.on_first_gradient.ensures.goes
 
 pub returns-in-FirstProject : goal.returns-in-FirstProject
-returns-in-FirstProject c = c.on_first_project.ensures (nine c.args.u.now c.args.plus.now c.args.gradient.now c.args.previous.now c.args.step.now c.args.half.now c.args.fpr.now c.args.direction.now c.args.best.now)
+returns-in-FirstProject c = c.on_first_project.ensures.goes
 
 pub returns-in-TriedGradient : goal.returns-in-TriedGradient
-returns-in-TriedGradient c = c.on_tried_gradient.ensures (nine c.args.u.now c.args.plus.now c.args.gradient.now c.args.previous.now c.args.step.now c.args.half.now c.args.fpr.now c.args.direction.now c.args.best.now)
+returns-in-TriedGradient c = c.on_tried_gradient.ensures.goes
 
 pub returns-in-TriedProject : goal.returns-in-TriedProject
-returns-in-TriedProject c = c.on_tried_project.ensures
+returns-in-TriedProject c = c.on_tried_project.ensures.goes
 
 pub unreachable-requires : goal.unreachable-requires
-unreachable-requires c = vector_phase (solve_of c.args.w.now c.args.k.now c.args.f.now) _ c.requires.0 (sym c.phase_of.ensures) c.in_default.not-Gradient c.in_default.not-Shifted c.in_default.not-Project c.in_default.not-DoubledProject c.in_default.not-Direction c.in_default.not-FirstGradient c.in_default.not-FirstProject c.in_default.not-TriedGradient c.in_default.not-TriedProject
+unreachable-requires c = vector_phase (small c.args.run) _ c.requires.0 (sym c.phase_of.ensures) c.in_default.not-Gradient c.in_default.not-Shifted c.in_default.not-Project c.in_default.not-DoubledProject c.in_default.not-Direction c.in_default.not-FirstGradient c.in_default.not-FirstProject c.in_default.not-TriedGradient c.in_default.not-TriedProject

@@ -1,33 +1,32 @@
 use Rattle.panoc_core.specs.Wanted.{number_wanted, vector_wanted, decision_wanted, took_number, took_vector, took_decision, took_failure, refusal_of}
 use mathlib.Core.Bool.{true, false}
-use Rattle.panoc_core.specs.Board.{nine}
-use Rattle.image.specs.Image.{solve_of}
+use Rattle.image.specs.LentRun.{small, held}
 use Rattle.std.proofs.Common.{refl}
 use Rattle.panoc_answers.proofs.lent.take_lent.Goals as goal
 
 pub on_number-requires : goal.on_number-requires
-on_number-requires c = number_wanted _ _ _ (refusal_of (solve_of c.args.w.now c.args.k.now c.args.f.now) _ c.in-Number.is c.requires)
+on_number-requires c = number_wanted _ _ _ (refusal_of (small c.args.run) _ c.in-Number.is c.requires)
 
 pub on_vector-requires : goal.on_vector-requires
-on_vector-requires c = vector_wanted _ _ (refusal_of (solve_of c.args.w.now c.args.k.now c.args.f.now) _ c.in-Vector.is c.requires)
+on_vector-requires c = vector_wanted _ _ (refusal_of (small c.args.run) _ c.in-Vector.is c.requires)
 
 pub on_decision-requires : goal.on_decision-requires
-on_decision-requires c = decision_wanted _ true _ (refusal_of (solve_of c.args.w.now c.args.k.now c.args.f.now) _ c.in-Yes.is c.requires)
+on_decision-requires c = decision_wanted _ true _ (refusal_of (small c.args.run) _ c.in-Yes.is c.requires)
 
 pub on_decision-requires-in-No : goal.on_decision-requires-in-No
-on_decision-requires-in-No c = decision_wanted _ false _ (refusal_of (solve_of c.args.w.now c.args.k.now c.args.f.now) _ c.in-No.is c.requires)
+on_decision-requires-in-No c = decision_wanted _ false _ (refusal_of (small c.args.run) _ c.in-No.is c.requires)
 
 pub returns-in-Number : goal.returns-in-Number
-returns-in-Number c = took_number (solve_of c.args.w.now c.args.k.now c.args.f.now) (nine c.args.u.now c.args.plus.now c.args.gradient.now c.args.previous.now c.args.step.now c.args.half.now c.args.fpr.now c.args.direction.now c.args.best.now) _ _ _ _ _ c.in-Number.is (c.on_number.ensures (nine c.args.u.now c.args.plus.now c.args.gradient.now c.args.previous.now c.args.step.now c.args.half.now c.args.fpr.now c.args.direction.now c.args.best.now))
+returns-in-Number c = took_number (small c.args.run) (held c.args.at) _ _ _ _ _ c.in-Number.is (c.on_number.ensures (held c.args.at))
 
 pub returns-in-Vector : goal.returns-in-Vector
-returns-in-Vector c = took_vector (solve_of c.args.w.now c.args.k.now c.args.f.now) (nine c.args.u.now c.args.plus.now c.args.gradient.now c.args.previous.now c.args.step.now c.args.half.now c.args.fpr.now c.args.direction.now c.args.best.now) _ _ _ _ c.in-Vector.is c.on_vector.ensures
+returns-in-Vector c = took_vector (small c.args.run) (held c.args.at) _ _ _ _ c.in-Vector.is c.on_vector.ensures
 
 pub returns-in-Yes : goal.returns-in-Yes
-returns-in-Yes c = took_decision (solve_of c.args.w.now c.args.k.now c.args.f.now) (nine c.args.u.now c.args.plus.now c.args.gradient.now c.args.previous.now c.args.step.now c.args.half.now c.args.fpr.now c.args.direction.now c.args.best.now) _ _ _ _ true c.in-Yes.is (c.on_decision.ensures (nine c.args.u.now c.args.plus.now c.args.gradient.now c.args.previous.now c.args.step.now c.args.half.now c.args.fpr.now c.args.direction.now c.args.best.now))
+returns-in-Yes c = took_decision (small c.args.run) (held c.args.at) _ _ _ _ true c.in-Yes.is c.on_decision.ensures.goes
 
 pub returns-in-No : goal.returns-in-No
-returns-in-No c = took_decision (solve_of c.args.w.now c.args.k.now c.args.f.now) (nine c.args.u.now c.args.plus.now c.args.gradient.now c.args.previous.now c.args.step.now c.args.half.now c.args.fpr.now c.args.direction.now c.args.best.now) _ _ _ _ false c.in-No.is (c.on_decision-in-No.ensures (nine c.args.u.now c.args.plus.now c.args.gradient.now c.args.previous.now c.args.step.now c.args.half.now c.args.fpr.now c.args.direction.now c.args.best.now))
+returns-in-No c = took_decision (small c.args.run) (held c.args.at) _ _ _ _ false c.in-No.is c.on_decision-in-No.ensures.goes
 
 pub returns-in-Failure : goal.returns-in-Failure
-returns-in-Failure c = rw (c.fail.ensures.outcome, c.fail.ensures.moved) (took_failure (solve_of c.args.w.now c.args.k.now c.args.f.now) (nine c.args.u.now c.args.plus.now c.args.gradient.now c.args.previous.now c.args.step.now c.args.half.now c.args.fpr.now c.args.direction.now c.args.best.now) _ _ _ _ c.in-Failure.is (refusal_of (solve_of c.args.w.now c.args.k.now c.args.f.now) _ c.in-Failure.is c.requires) refl)
+returns-in-Failure c = rw (c.fail.ensures.outcome, c.fail.ensures.moved) (took_failure (small c.args.run) (held c.args.at) _ _ _ _ c.in-Failure.is (refusal_of (small c.args.run) _ c.in-Failure.is c.requires) refl)
