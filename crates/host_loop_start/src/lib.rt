@@ -6,7 +6,8 @@ ghost use Rattle.alm_core.specs.Board.{set_u, set_y, set_y_plus};
 ghost use Rattle.alm_calls.specs.LoopCalls.{Begins};
 ghost use Rattle.alm_image.specs.AlmImage.{settings_given, told_of};
 
-use alm_image::lent::{begin, keep_alm, settings_given, tell_alm};
+use alm_image::lent::{begin, keep_step, settings_given};
+use alm_image::records::LoopLent;
 use alm_starts::start_in_place;
 
 // A run that is begun at the lent slices, or its refusal.
@@ -40,25 +41,6 @@ pub extern "C" fn pozkerrin_loop_start(
 ) -> u32
     ensures { (b : LoopBoard) → Begins (settings_given n n1 n2 has_set_y max_inner max_outer limited tolerance epsilon delta initial penalty_factor epsilon_factor coefficient) at.now xi.now (told_of result w.new k.new f.new lw.new lk.new lf.new) (set_u u.new (set_y y.new (set_y_plus plus.new b))) }
 {
-    begin(
-        n,
-        n1,
-        n2,
-        has_set_y,
-        max_inner,
-        max_outer,
-        limited,
-        tolerance,
-        epsilon,
-        delta,
-        initial,
-        penalty_factor,
-        epsilon_factor,
-        coefficient,
-        lw,
-        lk,
-        lf,
-    );
     let set = settings_given(
         n,
         n1,
@@ -75,7 +57,25 @@ pub extern "C" fn pozkerrin_loop_start(
         epsilon_factor,
         coefficient,
     );
+    let begun = LoopLent {
+        w,
+        k,
+        f,
+        lw,
+        lk,
+        lf,
+    };
+    begin(set, begun);
     let r = start_in_place(set, at, xi, u, y, plus);
-    keep_alm(r.state, w, k, f, lw, lk, lf);
-    tell_alm(r.outcome, w, k, f, lk, lf)
+    return keep_step(
+        r,
+        LoopLent {
+            w,
+            k,
+            f,
+            lw,
+            lk,
+            lf,
+        },
+    );
 }
