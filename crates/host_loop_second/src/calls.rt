@@ -6,6 +6,7 @@ ghost use Rattle.alm_image.specs.AlmImage.{alm_of};
 ghost use Rattle.host_loop_second.specs.Second.{Second};
 
 use crate::seconds::{fill_second, places};
+use alm_image::records::LoopRead;
 use alm_waiting::wants;
 use panoc_core::outcome::Refusal;
 use panoc_wanted::waits;
@@ -25,12 +26,20 @@ pub extern "C" fn pozkerrin_loop_second(
 ) -> u32
     ensures { (b : LoopBoard) → Second (run_of (alm_of w.now k.now f.now lw.now lk.now lf.now) (set_u u.now (set_y y.now b))) second.old second.new result }
 {
-    if !waits(wants(w, k, f, lw, lk, lf)) {
+    let run = LoopRead {
+        w,
+        k,
+        f,
+        lw,
+        lk,
+        lf,
+    };
+    if !waits(wants(run)) {
         return Refusal::Over.number();
     }
-    if second.len() != places(w, k, f, lw, lk, lf) {
+    if second.len() != places(run) {
         return Refusal::Lengths.number();
     }
-    fill_second(w, k, f, lw, lk, lf, second, u, y);
+    fill_second(run, second, u, y);
     0
 }

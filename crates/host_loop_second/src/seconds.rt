@@ -2,11 +2,12 @@
 ghost use Rattle.std.specs.Prelude.{◌≡◌, ◌≤◌, length, get_or};
 ghost use Rattle.alm_core.specs.Board.{Sound};
 ghost use Rattle.alm_vectors.specs.LoopPoints.{second_places, second_at_phase};
-ghost use Rattle.alm_image.specs.AlmImage.{phase_of, alm_of};
+ghost use Rattle.alm_image.specs.LentLoop.{loop_in, loop_phase_in};
 
 use alm_calls::lent::fill_xi;
 use alm_core::alm_cache::AlmPhase;
 use alm_image::places::{N1, N2, PENALTY, PHASE};
+use alm_image::records::LoopRead;
 use alm_points::xi_places;
 use alm_vectors::carries_xi_at;
 use image::kinds::phase_of;
@@ -14,17 +15,11 @@ use panoc_places::second_places_at;
 use vector_copies::give;
 
 // How many places the second point of the question has.
-pub fn places(
-    w: &[u32; 6],
-    k: &[usize; 6],
-    f: &[f64; 13],
-    lw: &[u32; 4],
-    lk: &[usize; 10],
-    lf: &[f64; 17],
-) -> usize
-    requires { get_or lk.now 5 0 ≤ 32 }
-    ensures { result ≡ second_places (alm_of w.now k.now f.now lw.now lk.now lf.now) (phase_of (get_or lw.now 0 0)) }
+pub fn places<'a>(run: LoopRead<'a>) -> usize
+    requires { get_or run.lk.now 5 0 ≤ 32 }
+    ensures { result ≡ second_places (loop_in run.entry) (loop_phase_in run.entry) }
 {
+    let LoopRead { w, k, lw, lk, .. } = run;
     if lw[PHASE] == AlmPhase::Inner as u32 {
         let phase = phase_of(w[image::places::PHASE]);
         if carries_xi_at(phase) {
@@ -39,20 +34,11 @@ pub fn places(
 }
 
 // The second point of the question.
-pub fn fill_second(
-    w: &[u32; 6],
-    k: &[usize; 6],
-    f: &[f64; 13],
-    lw: &[u32; 4],
-    lk: &[usize; 10],
-    lf: &[f64; 17],
-    second: &mut [f64],
-    u: &[f64; 64],
-    y: &[f64; 64],
-)
-    requires { (Sound (alm_of w.now k.now f.now lw.now lk.now lf.now)) × (length second.old ≡ second_places (alm_of w.now k.now f.now lw.now lk.now lf.now) (phase_of (get_or lw.now 0 0))) }
-    ensures { second.new ≡ second_at_phase (alm_of w.now k.now f.now lw.now lk.now lf.now) u.now y.now (phase_of (get_or lw.now 0 0)) second.old }
+pub fn fill_second<'a>(run: LoopRead<'a>, second: &mut [f64], u: &[f64; 64], y: &[f64; 64])
+    requires { (Sound (loop_in run)) × (length second.old ≡ second_places (loop_in run) (loop_phase_in run)) }
+    ensures { second.new ≡ second_at_phase (loop_in run.entry) u.now y.now (loop_phase_in run.entry) second.old }
 {
+    let LoopRead { w, lw, lf, .. } = run;
     if lw[PHASE] == AlmPhase::Inner as u32 {
         if carries_xi_at(phase_of(w[image::places::PHASE])) {
             fill_xi(lf[PENALTY], y, second);
