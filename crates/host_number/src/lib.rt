@@ -6,6 +6,7 @@ ghost use Rattle.panoc_core.specs.Board.{Board, run_of, gave, five, set_best};
 ghost use Rattle.panoc_core.specs.Calls.{Answers};
 ghost use Rattle.image.specs.Image.{solve_of, told_of};
 
+use image::lent::{CostVectors, Lent};
 use image::places::N;
 use image_solve::{refuse, tell};
 use panoc_core::panoc_cache::Reply;
@@ -34,9 +35,17 @@ pub extern "C" fn pozkerrin_inner_number(
     let wanted = wants_lent(w, k);
     match refusal(wanted, Reply::Number(x), 0, plan.len() == k[N]) {
         None => {
-            let o = on_number(x, w, k, f, u, gradient, step, half, fpr);
+            let run = Lent { w, k, f };
+            let at = CostVectors {
+                u,
+                gradient,
+                step,
+                half,
+                fpr,
+            };
+            let o = on_number(x, run, at);
             hand_out(o, best, plan);
-            tell(o, w, k, f)
+            tell(o, Lent { w, k, f })
         }
         Some(refusal) => refuse(refusal, w),
     }

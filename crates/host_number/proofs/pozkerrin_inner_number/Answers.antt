@@ -14,7 +14,7 @@ pub hand_out-requires : goal.hand_out-requires
 hand_out-requires c = short (Number c.args.x) [] c.args.plan.now c.args.w.now c.args.k.now c.args.f.now (nine [] [] [] [] [] [] [] [] []) c.wants_lent-wanted.result (c.wants_lent-wanted.ensures c.args.f.now) _ _ refl c.in-None.ensures refl
 
 pub returns-in-None : goal.returns-in-None
-returns-in-None c = λ b. told_as (Number c.args.x) [] c.args.plan.now c.args.w.now c.args.k.now c.args.f.now (set_best c.args.best.now (five c.args.u.now c.args.gradient.now c.args.step.now c.args.half.now c.args.fpr.now b)) c.wants_lent-wanted.result (c.wants_lent-wanted.ensures c.args.f.now) _ _ refl c.in-None.ensures refl _ c.on_number-o.result _ c.on_number-o.new.w c.tell.new.w c.on_number-o.new.k c.tell.new.k c.on_number-o.new.f c.tell.new.f _ (c.on_number-o.ensures (set_best c.args.best.now b)) c.hand_out.ensures c.tell.ensures
+returns-in-None c = λ b. told_as (Number c.args.x) [] c.args.plan.now c.args.w.now c.args.k.now c.args.f.now (set_best c.args.best.now (five c.args.u.now c.args.gradient.now c.args.step.now c.args.half.now c.args.fpr.now b)) c.wants_lent-wanted.result (c.wants_lent-wanted.ensures c.args.f.now) _ _ refl c.in-None.ensures refl _ c.on_number-o.result _ c.on_number-o.new.run.0 c.tell.new.run.0 c.on_number-o.new.run.1.0 c.tell.new.run.1.0 c.on_number-o.new.run.1.1.0 c.tell.new.run.1.1.0 _ (c.on_number-o.ensures (set_best c.args.best.now b)) c.hand_out.ensures c.tell.ensures
 
 pub returns-in-Some : goal.returns-in-Some
 returns-in-Some c = λ b. refused_as (Number c.args.x) [] c.args.plan.now c.args.w.now c.args.k.now c.args.f.now (set_best c.args.best.now (five c.args.u.now c.args.gradient.now c.args.step.now c.args.half.now c.args.fpr.now b)) c.wants_lent-wanted.result (c.wants_lent-wanted.ensures c.args.f.now) _ _ refl c.in-Some.ensures _ _ (refusal_some _) c.refuse.ensures
