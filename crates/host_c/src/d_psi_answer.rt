@@ -6,6 +6,7 @@ ghost use Rattle.psi_image.specs.PsiImage.{d_psi_of, d_psi_step_of};
 ghost use Rattle.psi_kinds.specs.PsiKinds.{reply_of};
 
 // An answer to the question of a run; the result goes into the lent slice. A kind of none is answered as a no, which d_psi never takes.
+// Its body is proved in host_d_psi: a crate is a library or a static library, not both.
 #[unsafe(no_mangle)]
 pub extern "C" fn pozkerrin_d_psi_answer(
     w: &mut [u32; 2],

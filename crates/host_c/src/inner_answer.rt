@@ -4,6 +4,7 @@ ghost use Rattle.image.specs.Image.{solve_of, told_of};
 ghost use Rattle.host.specs.Exports.{Exported};
 
 // An answer to the question of a run; a plan goes into the lent slice.
+// Its body is proved in host: a crate is a library or a static library, not both.
 #[unsafe(no_mangle)]
 pub extern "C" fn pozkerrin_inner_answer(
     w: &mut [u32; 6],

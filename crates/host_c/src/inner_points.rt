@@ -6,6 +6,7 @@ ghost use Rattle.image.specs.Image.{solve_of};
 ghost use Rattle.host_points.specs.Places.{Lies};
 
 // The points of the question of a run: 0, or 6 where it has ended and 8 where a slice is not as long as its point.
+// Its body is proved in host_points: a crate is a library or a static library, not both.
 #[unsafe(no_mangle)]
 pub extern "C" fn pozkerrin_inner_points<'a>(
     w: &[u32; 6],
@@ -26,6 +27,7 @@ pub extern "C" fn pozkerrin_inner_points<'a>(
 }
 
 // Where the first point of the question of a run lies: the number of the vector that has it in its first places.
+// Its body is proved in host_points: a crate is a library or a static library, not both.
 #[unsafe(no_mangle)]
 pub extern "C" fn pozkerrin_inner_place(w: &[u32; 6]) -> u32
     ensures { (k : List ℕ) (f : List Float) (b : Board) → Lies (run_of (solve_of w.now k f) b) b result }

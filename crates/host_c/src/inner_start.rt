@@ -3,6 +3,7 @@ ghost use Rattle.panoc_core.specs.Board.{Board, Begins, set_u};
 ghost use Rattle.image.specs.Image.{settings_given, told_of};
 
 // A run that is begun at the lent slice, or its refusal.
+// Its body is proved in host_start: a crate is a library or a static library, not both.
 #[unsafe(no_mangle)]
 pub extern "C" fn pozkerrin_inner_start(
     w: &mut [u32; 6],

@@ -4,6 +4,7 @@ ghost use Rattle.alm_image.specs.AlmImage.{alm_of, told_of};
 ghost use Rattle.host_loop.specs.Exports.{Exported};
 
 // An answer to the question of a run; a plan and the multipliers go into the lent slices.
+// Its body is proved in host_loop: a crate is a library or a static library, not both.
 #[unsafe(no_mangle)]
 pub extern "C" fn pozkerrin_loop_answer(
     w: &mut [u32; 6],

@@ -5,6 +5,7 @@ ghost use Rattle.alm_vectors.specs.LoopPoints.{asked};
 ghost use Rattle.alm_image.specs.AlmImage.{alm_of};
 
 // The points of the question of a run: 0, or 6 where it has ended and 8 where a slice is not as long as its point.
+// Its body is proved in host_loop_points: a crate is a library or a static library, not both.
 #[unsafe(no_mangle)]
 pub extern "C" fn pozkerrin_loop_points<'a>(
     w: &[u32; 6],

@@ -6,6 +6,7 @@ ghost use Rattle.alm_image.specs.AlmImage.{alm_of};
 ghost use Rattle.host_loop_second.specs.Second.{Second};
 
 // The second point of the question of a run alone: xi or u. 0, or 6 where the run has ended and 8 where the slice is not as long as that point.
+// Its body is proved in host_loop_second: a crate is a library or a static library, not both.
 #[unsafe(no_mangle)]
 pub extern "C" fn pozkerrin_loop_second(
     w: &[u32; 6],

@@ -5,6 +5,7 @@ ghost use Rattle.alm_calls.specs.LoopCalls.{Begins};
 ghost use Rattle.alm_image.specs.AlmImage.{settings_given, told_of};
 
 // A run that is begun at the lent slices, or its refusal.
+// Its body is proved in host_loop_start: a crate is a library or a static library, not both.
 #[unsafe(no_mangle)]
 pub extern "C" fn pozkerrin_loop_start(
     w: &mut [u32; 6],

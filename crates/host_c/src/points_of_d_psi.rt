@@ -6,6 +6,7 @@ ghost use Rattle.factory.specs.FactoryRest.{d_psi_rest};
 ghost use Rattle.psi_image.specs.PsiImage.{d_psi_of};
 
 // The points of the question of a run; a product has a second: 0, or 6 where it has ended and 8 where a slice is not as long as its point.
+// Its body is proved in host_d_psi_points: a crate is a library or a static library, not both.
 #[unsafe(no_mangle)]
 pub extern "C" fn pozkerrin_d_psi_points<'a>(
     w: &[u32; 2],

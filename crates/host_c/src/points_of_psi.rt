@@ -6,6 +6,7 @@ ghost use Rattle.factory.specs.FactoryRest.{psi_rest};
 ghost use Rattle.psi_image.specs.PsiImage.{psi_of};
 
 // The point of the question of a run; no question has a second: 0, or 6 where it has ended and 8 where a slice is not as long.
+// Its body is proved in host_psi_points: a crate is a library or a static library, not both.
 #[unsafe(no_mangle)]
 pub extern "C" fn pozkerrin_psi_points<'a>(
     w: &[u32; 2],

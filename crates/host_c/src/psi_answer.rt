@@ -6,6 +6,7 @@ ghost use Rattle.psi_image.specs.PsiImage.{psi_of, psi_step_of};
 ghost use Rattle.psi_kinds.specs.PsiKinds.{reply_of};
 
 // An answer to the question of a run. A kind of none is answered as a no, which psi never takes: 6 where the run has ended, else 7.
+// Its body is proved in host_psi: a crate is a library or a static library, not both.
 #[unsafe(no_mangle)]
 pub extern "C" fn pozkerrin_psi_answer(
     w: &mut [u32; 2],

@@ -5,6 +5,7 @@ ghost use Rattle.factory.specs.FactoryCalls.{PsiStarts};
 ghost use Rattle.psi_image.specs.PsiImage.{psi_step_of};
 
 // A run that is begun at the lent slices, or its refusal.
+// Its body is proved in host_psi_start: a crate is a library or a static library, not both.
 #[unsafe(no_mangle)]
 pub extern "C" fn pozkerrin_psi_start(
     w: &mut [u32; 2],

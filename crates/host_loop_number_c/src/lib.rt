@@ -10,6 +10,7 @@ ghost use Rattle.host_loop_number.specs.Eight.{eight};
 use panoc_core::panoc_cache::Reply;
 
 // The number x for the question of a run; a plan and the multipliers go into the lent slices.
+// Its body is proved in host_loop_number: a crate is a library or a static library, not both.
 #[unsafe(no_mangle)]
 pub extern "C" fn pozkerrin_loop_number(
     w: &mut [u32; 6],

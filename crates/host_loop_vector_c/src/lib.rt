@@ -7,6 +7,7 @@ ghost use Rattle.alm_image.specs.AlmImage.{alm_of, told_of};
 use panoc_core::panoc_cache::Reply;
 
 // The vector v for the question of a run; a plan and the multipliers go into the lent slices.
+// Its body is proved in host_loop_vector: a crate is a library or a static library, not both.
 #[unsafe(no_mangle)]
 pub extern "C" fn pozkerrin_loop_vector(
     w: &mut [u32; 6],

@@ -9,6 +9,7 @@ ghost use Rattle.image.specs.Image.{solve_of, told_of};
 use panoc_core::panoc_cache::Reply;
 
 // The number x for the question of a run; a plan goes into the lent slice.
+// Its body is proved in host_number: a crate is a library or a static library, not both.
 #[unsafe(no_mangle)]
 pub extern "C" fn pozkerrin_inner_number(
     w: &mut [u32; 6],

@@ -8,6 +8,7 @@ ghost use Rattle.image.specs.Image.{solve_of, told_of};
 use panoc_core::panoc_cache::Reply;
 
 // The vector v for the question of a run; a plan goes into the lent slice.
+// Its body is proved in host_vector: a crate is a library or a static library, not both.
 #[unsafe(no_mangle)]
 pub extern "C" fn pozkerrin_inner_vector(
     w: &mut [u32; 6],

@@ -16,9 +16,8 @@ pub fn play(rt: &impl Print, u: [f64; 2], xi: [f64; 2], aloud: bool) -> io::Resu
         let DPsiOutcome::Asked(question) = last.outcome else {
             return Ok(result);
         };
-        let run = last.run;
-        let given = given_to(rt, question, aloud, |p, q| points(run, p, q))?;
-        last = answer(run, given.reply(), given.vector(), &mut result);
+        let given = given_to(rt, question, aloud, |p, q| points(last.run, p, q))?;
+        last = answer(last.run, given.reply(), given.vector(), &mut result);
     }
     if aloud {
         println!(rt; "ended{}", Floats(&result))?;

@@ -15,9 +15,8 @@ pub fn play(rt: &impl Print, u: [f64; 2], xi: [f64; 2], aloud: bool) -> io::Resu
         let PsiOutcome::Asked(question) = last.outcome else {
             return Ok(0.0);
         };
-        let run = last.run;
-        let given = given_to(rt, question, aloud, |p, q| points(run, p, q))?;
-        last = answer(run, given.reply(), given.vector());
+        let given = given_to(rt, question, aloud, |p, q| points(last.run, p, q))?;
+        last = answer(last.run, given.reply(), given.vector());
     }
     let PsiOutcome::Ended(x) = last.outcome else {
         return Ok(0.0);

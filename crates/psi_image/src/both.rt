@@ -8,7 +8,7 @@ use image::told;
 use panoc_core::outcome::Outcome;
 use psi_kinds::{Numbered, question_number};
 
-// The sizes that the lent numbers stand for.
+// The sizes that the lent numbers stand for: an impl of From would have to stand in the crate of the sizes, which knows no layout of C.
 pub fn sizes_of(k: &[usize; 3]) -> Sizes
     ensures { result ≡ sizes_of k.now }
 {
@@ -19,7 +19,7 @@ pub fn sizes_of(k: &[usize; 3]) -> Sizes
     }
 }
 
-// The phase and the sizes of a run into the lent numbers.
+// The phase and the sizes of a run into the lent numbers, each at the place that C reads.
 pub fn keep<P: Numbered, V: Copy>(s: State<P, V>, w: &mut [u32; 2], k: &mut [usize; 3])
     ensures phase { P.phase_of (get_or w.new 0 0) ≡ s.phase }
     ensures sizes { sizes_of k.new ≡ s.sizes }
@@ -35,7 +35,7 @@ fn note(number: u32, w: &mut [u32; 2])
     *w = [w[0], number];
 }
 
-// What a call has told, but for the value of an end, into the lent numbers: C reads 0 at an end. Its kind is the result.
+// What a call has told, but for the value of an end, into the lent numbers: C reads 0 at an end. Its kind is the result, a number since C reads it.
 pub fn tell<E: Copy>(o: Outcome<PsiQuestion, E>, w: &mut [u32; 2]) -> u32
     ensures { Tells (numbered o) result w.old w.new }
 {

@@ -7,7 +7,7 @@ use crate::both::{keep, sizes_of, tell};
 use factory::alm_factory::{DPsiOutcome, DPsiPhase, DPsiState};
 use psi_kinds::Numbered;
 
-// The small part of the run that the lent numbers stand for.
+// The small part of the run that the lent numbers stand for: it is read from three arrays, which no impl of From takes.
 pub fn d_psi_of(w: &[u32; 2], k: &[usize; 3], f: &[f64; 1]) -> DPsiState
     ensures { result ≡ d_psi_of w.now k.now f.now }
 {
@@ -19,7 +19,7 @@ pub fn d_psi_of(w: &[u32; 2], k: &[usize; 3], f: &[f64; 1]) -> DPsiState
     }
 }
 
-// The small part of a run into the lent numbers.
+// The small part of a run into the lent numbers, each at the place that C reads.
 pub fn keep_d_psi(s: DPsiState, w: &mut [u32; 2], k: &mut [usize; 3], f: &mut [f64; 1])
     ensures { d_psi_of w.new k.new f.new ≡ s }
 {
@@ -27,7 +27,7 @@ pub fn keep_d_psi(s: DPsiState, w: &mut [u32; 2], k: &mut [usize; 3], f: &mut [f
     *f = [s.c];
 }
 
-// What a call has told, into the lent numbers; its kind is the result.
+// What a call has told, into the lent numbers; its kind is the result, a number since C reads it.
 pub fn tell_d_psi(o: DPsiOutcome, w: &mut [u32; 2]) -> u32
     ensures { DPsiTells (numbered o) result w.old w.new }
 {

@@ -7,7 +7,7 @@ use crate::both::{keep, sizes_of, tell};
 use factory::alm_factory::{PsiOutcome, PsiPhase, PsiState};
 use psi_kinds::Numbered;
 
-// The small part of the run that the lent numbers stand for.
+// The small part of the run that the lent numbers stand for: it is read from three arrays, which no impl of From takes.
 pub fn psi_of(w: &[u32; 2], k: &[usize; 3], f: &[f64; 3]) -> PsiState
     ensures { result ≡ psi_of w.now k.now f.now }
 {
@@ -19,7 +19,7 @@ pub fn psi_of(w: &[u32; 2], k: &[usize; 3], f: &[f64; 3]) -> PsiState
     }
 }
 
-// The small part of a run into the lent numbers.
+// The small part of a run into the lent numbers, each at the place that C reads.
 pub fn keep_psi(s: PsiState, w: &mut [u32; 2], k: &mut [usize; 3], f: &mut [f64; 3])
     ensures { psi_of w.new k.new f.new ≡ s }
 {
@@ -27,7 +27,7 @@ pub fn keep_psi(s: PsiState, w: &mut [u32; 2], k: &mut [usize; 3], f: &mut [f64;
     *f = [s.c, s.value, f[2]];
 }
 
-// What a call has told, into the lent numbers; its kind is the result.
+// What a call has told, into the lent numbers; its kind is the result, a number since C reads it.
 pub fn tell_psi(o: PsiOutcome, w: &mut [u32; 2], f: &mut [f64; 3]) -> u32
     ensures { PsiTells (numbered o) result w.old f.old w.new f.new }
 {

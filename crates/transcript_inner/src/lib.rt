@@ -11,16 +11,15 @@ use transcript_lines::output::{Line, asked, ended};
 
 // What a call gave.
 pub fn told(r: &Answered) -> Line {
-    let run = r.run;
     output::told(
         r.outcome,
         |question| {
             asked(
                 name(question),
-                first_places(run.solve),
+                first_places(r.run.solve),
                 then(question),
-                second_places(run.solve),
-                |p, q| points(run, p, q),
+                second_places(r.run.solve),
+                |p, q| points(r.run, p, q),
             )
         },
         put_ended,
@@ -28,6 +27,7 @@ pub fn told(r: &Answered) -> Line {
 }
 
 // ended END ITERATIONS NORM COST
+// No Display: its writer gives no caller what was written, and here it is proved that a line has room for it.
 fn put_ended(status: SolverStatus) -> Line {
     let mut line = ended(status.exit_status, status.iterations.0);
     put_floats(&[status.norm_fpr, status.cost_value], &mut line);

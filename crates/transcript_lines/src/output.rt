@@ -17,7 +17,8 @@ pub fn alone(word: &[u8]) -> Line
     put_points(word, &[], b"", &[])
 }
 
-// Two points, each with its word before it.
+// Two points, each with its word before it. No Display: its writer gives no caller what was written, and here it is proved that a line has room
+// for it.
 pub fn put_points(word: &[u8], p: &[f64], then: &[u8], q: &[f64]) -> Line
     requires words { (length word.now ≤ 50) × (length then.now ≤ 50) }
     requires places { (length p.now ≤ 128) × (length q.now ≤ 128) }

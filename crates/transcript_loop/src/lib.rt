@@ -17,16 +17,15 @@ fn seconds(s: Alm) -> usize {
 
 // What a call gave.
 pub fn told(r: &AlmAnswered) -> Line {
-    let run = r.run;
     output::told(
         r.outcome,
         |question| {
             asked(
                 name(question),
-                first_places(run.alm),
+                first_places(r.run.alm),
                 then(question),
-                seconds(run.alm),
-                |p, q| points(run, p, q),
+                seconds(r.run.alm),
+                |p, q| points(r.run, p, q),
             )
         },
         put_ended,
@@ -60,6 +59,7 @@ fn then(question: AlmQuestion) -> &'static [u8]
 }
 
 // ended END OUTER INNER NORM COST C DELTA_Y F2
+// No Display: its writer gives no caller what was written, and here it is proved that a line has room for it.
 fn put_ended(status: AlmOptimizerStatus) -> Line {
     let mut line = ended(status.exit_status, status.num_outer_iterations.0);
     put_counted(b" ", status.num_inner_iterations.0 as u64, &mut line);

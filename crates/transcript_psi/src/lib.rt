@@ -7,14 +7,13 @@ use transcript_lines::output::{Line, alone, asked, put_points, told};
 
 // What a call of psi gave; its end has a value.
 pub fn psi_told(r: &PsiAnswered) -> Line {
-    let run = r.run;
     told(
         r.outcome,
         |question| {
             put_asked(
                 question,
-                run.state.sizes,
-                |p, q| psi_points::points(run, p, q),
+                r.run.state.sizes,
+                |p, q| psi_points::points(r.run, p, q),
             )
         },
         |value| put_points(b"ended", &[value], b"", &[]),
@@ -23,14 +22,13 @@ pub fn psi_told(r: &PsiAnswered) -> Line {
 
 // What a call of d_psi gave.
 pub fn d_psi_told(r: &DPsiAnswered) -> Line {
-    let run = r.run;
     told(
         r.outcome,
         |question| {
             put_asked(
                 question,
-                run.state.sizes,
-                |p, q| d_psi_points::points(run, p, q),
+                r.run.state.sizes,
+                |p, q| d_psi_points::points(r.run, p, q),
             )
         },
         |()| alone(b"ended"),
@@ -38,6 +36,7 @@ pub fn d_psi_told(r: &DPsiAnswered) -> Line {
 }
 
 // A question, with the points that `points` gives: PROJECT on C has places of C, the products alone have a second point.
+// No Display: a line has the room that is proved for it, and the points are asked for here.
 fn put_asked<P: FnOnce(&mut [f64], &mut [f64]) -> Result<(), Refusal>>(
     question: PsiQuestion,
     sizes: Sizes,

@@ -4,7 +4,7 @@ ghost use Rattle.std.specs.Float.{binary64};
 ghost use Rattle.matrix_operations.specs.Firsts.{firsts};
 ghost use Rattle.model.specs.Vectors.{plus_over};
 
-// t = F1 + y / scale, from a copy of F1.
+// t = F1 + y / scale, from a copy of F1. It takes the three vectors that psi and d_psi both lend, whose records differ.
 pub fn shifted_into(scale: f64, f1: &[f64], y: &[f64; 64], t: &mut [f64; 64], work: &mut [f64; 64])
     requires { length f1.now ≤ 64 }
     ensures { firsts (length f1.now) t.new ≡ plus_over binary64 scale f1.now (firsts (length f1.now) y.now) }
