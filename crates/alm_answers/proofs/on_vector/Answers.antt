@@ -2,7 +2,7 @@ use Rattle.alm_core.specs.declared.alm_cache.AlmPhase.{AlmPhase}
 use Rattle.alm_core.specs.declared.alm_cache.AlmPhase.TheVariants as P
 use Rattle.std.proofs.Common.{◌≡◌, refl}
 use Rattle.alm_calls.proofs.LoopLaws.{vector_at, vector_not, vector_time, vector_number, vector_over}
-use Rattle.alm_core.specs.Board.{six}
+use Rattle.alm_core.specs.LentLoop.{own_held}
 use Rattle.alm_answers.proofs.on_vector.Goals as goal
 
 pub on_project_y-requires : goal.on_project_y-requires
@@ -18,16 +18,16 @@ pub on_f2-requires : goal.on_f2-requires
 on_f2-requires c = let w = vector_at c.args.s _ _ P.F2 c.requires.0 c.in-F2.is refl refl in (w.0, c.in-F2.is, w.1)
 
 pub returns-in-ProjectY : goal.returns-in-ProjectY
-returns-in-ProjectY c = λ b. c.on_project_y.ensures (six c.args.u.now c.args.scratch.now c.args.best.now c.args.y.now c.args.plus.now c.args.w.now b)
+returns-in-ProjectY c = λ b. c.on_project_y.ensures (own_held c.args.at b)
 
 pub returns-in-F1 : goal.returns-in-F1
-returns-in-F1 c = λ b. c.on_f1.ensures (six c.args.u.now c.args.scratch.now c.args.best.now c.args.y.now c.args.plus.now c.args.w.now b)
+returns-in-F1 c = c.on_f1.ensures.goes
 
 pub returns-in-ProjectC : goal.returns-in-ProjectC
-returns-in-ProjectC c = λ b. c.on_project_c.ensures (six c.args.u.now c.args.scratch.now c.args.best.now c.args.y.now c.args.plus.now c.args.w.now b)
+returns-in-ProjectC c = c.on_project_c.ensures.goes
 
 pub returns-in-F2 : goal.returns-in-F2
-returns-in-F2 c = λ b. c.on_f2.ensures (six c.args.u.now c.args.scratch.now c.args.best.now c.args.y.now c.args.plus.now c.args.w.now b)
+returns-in-F2 c = c.on_f2.ensures.goes
 
 pub unreachable-requires : goal.unreachable-requires
 unreachable-requires c = by c.args.s.phase refl
