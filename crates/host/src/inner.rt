@@ -4,6 +4,7 @@ ghost use Rattle.image.specs.Image.{solve_of, told_of};
 ghost use Rattle.host.specs.Exports.{Exported};
 
 use image::kinds::reply_of;
+use image::lent::{Lent, Vectors};
 use image::places::N;
 use image_solve::{refuse, strange, tell};
 use panoc_answers::lent::take_lent;
@@ -41,11 +42,21 @@ pub extern "C" fn pozkerrin_inner_answer(
     let a = reply_of(kind, x, code);
     match refusal(wanted, a, v.len(), plan.len() == k[N]) {
         None => {
-            let o = take_lent(
-                a, v, w, k, f, u, plus, gradient, previous, step, half, fpr, direction, best,
-            );
+            let run = Lent { w, k, f };
+            let at = Vectors {
+                u,
+                plus,
+                gradient,
+                previous,
+                step,
+                half,
+                fpr,
+                direction,
+                best,
+            };
+            let o = take_lent(a, v, run, at);
             hand_out(o, best, plan);
-            tell(o, w, k, f)
+            tell(o, Lent { w, k, f })
         }
         Some(refusal) => refuse(refusal, w),
     }

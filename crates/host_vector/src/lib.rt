@@ -5,6 +5,7 @@ ghost use Rattle.panoc_core.specs.Board.{before, after, run_of, gave};
 ghost use Rattle.panoc_core.specs.Calls.{Answers};
 ghost use Rattle.image.specs.Image.{solve_of, told_of};
 
+use image::lent::{Lent, Vectors};
 use image::places::N;
 use image_solve::{refuse, tell};
 use panoc_answers::lent::on_vector;
@@ -36,11 +37,21 @@ pub extern "C" fn pozkerrin_inner_vector(
     let wanted = wants_lent(w, k);
     match refusal(wanted, Reply::Vector, v.len(), plan.len() == k[N]) {
         None => {
-            let o = on_vector(
-                v, w, k, f, u, plus, gradient, previous, step, half, fpr, direction, best,
-            );
+            let run = Lent { w, k, f };
+            let at = Vectors {
+                u,
+                plus,
+                gradient,
+                previous,
+                step,
+                half,
+                fpr,
+                direction,
+                best,
+            };
+            let o = on_vector(v, run, at);
             hand_out(o, best, plan);
-            tell(o, w, k, f)
+            tell(o, Lent { w, k, f })
         }
         Some(refusal) => refuse(refusal, w),
     }
