@@ -44,19 +44,23 @@ pub record Carried (s : Alm) (x : Step) (o : LoopStep) (u best y plus u' y' us w
 abbrev pub inner_gave : Outcome Question SolverStatus → LoopLent → Step
 inner_gave o run = I.step_of o run.w.now run.k.now run.f.now
 
+-- the loop asks by its inner solve
+abbrev pub AsksInner : LoopLent → Type 0
+AsksInner run = get_or run.lw.now 0 0 ≡ 3
+
+-- it asks by itself
+abbrev pub AsksItself : LoopLent → Type 0
+AsksItself run = AsksInner run → ⊥
+
 -- the loop has asked by its inner solve, which gave o
 abbrev pub MayCarry : Outcome Question SolverStatus → LoopLent → OuterVectors → List Float → List Float → Type 0
 MayCarry o run at us xs =
-    (length us ≤ 64) × (length xs ≤ 33) × (get_or run.lw.now 0 0 ≡ 3) × (Ready (loop_held run)) × (get_or run.k.now 3 0 ≡ get_or run.lk.now 4 0) × (EndsWithin (numbered o)) × (Reached (loop_held run) (inner_gave o run) at.u.now at.best.now)
+    (length us ≤ 64) × (length xs ≤ 33) × (AsksInner run) × (Ready (loop_held run)) × (get_or run.k.now 3 0 ≡ get_or run.lk.now 4 0) × (EndsWithin (numbered o)) × (Reached (loop_held run) (inner_gave o run) at.u.now at.best.now)
 
 -- o is carried out, and t is told
 abbrev pub CarriesOut : Outcome Question SolverStatus → LoopLent → OuterVectors → Lent → Lent → LoopStep → OuterLeft → Type 0
 CarriesOut o run at plan xi t end =
     Carried (loop_held run) (inner_gave o run) t at.u.now at.best.now at.y.now at.plus.now end.0.now end.1.1.0.now plan.entry.now plan.exit.now xi.entry.now xi.exit.now
-
--- the loop asks by itself
-abbrev pub AsksItself : LoopLent → Type 0
-AsksItself run = get_or run.lw.now 0 0 ≡ 3 → ⊥
 
 -- the answer a, with the vector v beside it, to a run with the vectors b: t is told, and the vectors are c
 abbrev pub AnswersLent : Reply → List Float → LoopLent → LoopBoard → Lent → Lent → LoopStep → LoopBoard → Type 0
