@@ -2,52 +2,138 @@
 // The result is the kind that the call for C returns.
 #![tactic(auto)]
 
-ghost use Rattle.alm_calls.specs.LoopCalls.{Answers, before, after, run_of, gave};
-ghost use Rattle.alm_image.specs.AlmImage.{alm_of, told_of};
-ghost use Rattle.lent_loop.specs.Lent.{Accepted};
+ghost use Rattle.alm_core.specs.LentLoop.{held, left};
+ghost use Rattle.alm_image.specs.LentLoop.{loop_held, loop_told};
+ghost use Rattle.lent_loop.specs.Lent.{Accepted, AsksInner, AsksItself, AnswersLent};
 
 use alm_core::alm_cache::AlmPhase;
+use alm_core::lent::{LoopVectors, OuterVectors, OwnVectors};
 use alm_image::places::PHASE;
+use alm_image::records::LoopLent;
+use image::lent::{Lent, Vectors};
 use lent_loop::carry;
 use lent_own::own;
 use panoc_answers::lent::take_lent;
 use panoc_core::panoc_cache::Reply;
 
-// To a question of the inner solve, or of the loop itself.
-pub fn answer_accepted(
-    w: &mut [u32; 6],
-    k: &mut [usize; 6],
-    f: &mut [f64; 13],
-    lw: &mut [u32; 4],
-    lk: &mut [usize; 10],
-    lf: &mut [f64; 17],
+// To a question of the inner solve.
+fn answer_inner<'a>(
+    run: LoopLent<'a>,
     a: Reply,
     v: &[f64],
     plan: &mut [f64],
     xi: &mut [f64],
-    u: &mut [f64; 64],
-    candidate: &mut [f64; 64],
-    gradient: &mut [f64; 64],
-    previous: &mut [f64; 64],
-    step: &mut [f64; 64],
-    half: &mut [f64; 64],
-    fpr: &mut [f64; 64],
-    direction: &mut [f64; 64],
-    best: &mut [f64; 64],
-    y: &mut [f64; 64],
-    plus: &mut [f64; 64],
-    f1: &mut [f64; 64],
+    at: LoopVectors<'a>,
 ) -> u32
-    requires { Accepted (alm_of w.old k.old f.old lw.old lk.old lf.old) a v.now plan.old xi.old }
-    ensures { Answers (run_of (alm_of w.old k.old f.old lw.old lk.old lf.old) (before u candidate gradient previous step half fpr direction best y plus f1)) a v.now plan.old plan.new xi.old xi.new (gave (told_of result w.new k.new f.new lw.new lk.new lf.new) (after u candidate gradient previous step half fpr direction best y plus f1)) }
+    requires { (Accepted (loop_held run) a v.now plan.old xi.old) × (AsksInner run) }
+    ensures { AnswersLent a v.now run.entry (held at.entry) plan xi (loop_told result run.exit) (left at.exit) }
 {
-    if lw[PHASE] == AlmPhase::Inner as u32 {
-        let o = take_lent(
-            a, v, w, k, f, u, candidate, gradient, previous, step, half, fpr, direction, best,
-        );
-        return carry(o, w, k, f, lw, lk, lf, plan, xi, u, best, y, plus);
+    let LoopLent {
+        w,
+        k,
+        f,
+        lw,
+        lk,
+        lf,
+    } = run;
+    let LoopVectors {
+        u,
+        candidate,
+        gradient,
+        previous,
+        step,
+        half,
+        fpr,
+        direction,
+        best,
+        y,
+        plus,
+        ..
+    } = at;
+    let o = take_lent(
+        a,
+        v,
+        Lent { w, k, f },
+        Vectors {
+            u,
+            plus: candidate,
+            gradient,
+            previous,
+            step,
+            half,
+            fpr,
+            direction,
+            best,
+        },
+    );
+    return carry(
+        o,
+        LoopLent {
+            w,
+            k,
+            f,
+            lw,
+            lk,
+            lf,
+        },
+        plan,
+        xi,
+        OuterVectors { u, best, y, plus },
+    );
+}
+
+// To a question of the loop itself.
+fn answer_own<'a>(
+    run: LoopLent<'a>,
+    a: Reply,
+    v: &[f64],
+    plan: &mut [f64],
+    xi: &mut [f64],
+    at: LoopVectors<'a>,
+) -> u32
+    requires { (Accepted (loop_held run) a v.now plan.old xi.old) × (AsksItself run) }
+    ensures { AnswersLent a v.now run.entry (held at.entry) plan xi (loop_told result run.exit) (left at.exit) }
+{
+    let LoopVectors {
+        u,
+        candidate,
+        best,
+        y,
+        plus,
+        w,
+        ..
+    } = at;
+    return own(
+        run,
+        a,
+        v,
+        plan,
+        xi,
+        OwnVectors {
+            u,
+            scratch: candidate,
+            best,
+            y,
+            plus,
+            w,
+        },
+    );
+}
+
+// To a question of the inner solve, or of the loop itself.
+pub fn answer_accepted<'a>(
+    run: LoopLent<'a>,
+    a: Reply,
+    v: &[f64],
+    plan: &mut [f64],
+    xi: &mut [f64],
+    at: LoopVectors<'a>,
+) -> u32
+    requires { Accepted (loop_held run) a v.now plan.old xi.old }
+    ensures { AnswersLent a v.now run.entry (held at.entry) plan xi (loop_told result run.exit) (left at.exit) }
+{
+    if run.lw[PHASE] == AlmPhase::Inner as u32 {
+        return answer_inner(run, a, v, plan, xi, at);
     }
-    own(
-        w, k, f, lw, lk, lf, a, v, plan, xi, u, candidate, best, y, plus, f1,
-    )
+    answer_own(run, a, v, plan, xi, at)
 }
