@@ -1,31 +1,25 @@
 use Rattle.std.proofs.Common.{refl}
 use Rattle.panoc_core.specs.Numbers.{refusal_some}
-use Rattle.alm_core.specs.Rest.{LoopBoard}
-use Rattle.alm_core.specs.Board.{twelve}
+use Rattle.alm_core.specs.LentLoop.{held}
 use Rattle.alm_calls.proofs.LoopLaws.{refusal_wanted, answer_fits, answer_plan, answer_xi, answer_goes, answer_refused}
 use Rattle.alm_in_place.proofs.answer_in_place.Goals as goal
 
 pub take-r-requires : goal.take-r-requires
 take-r-requires c =
-    let b : LoopBoard = twelve c.args.u.now c.args.candidate.now c.args.gradient.now c.args.previous.now c.args.step.now c.args.half.now c.args.fpr.now c.args.direction.now c.args.best.now c.args.y.now c.args.plus.now c.args.w.now in
-    answer_fits c.args.s b c.args.a c.args.v.now c.args.plan.now c.args.xi.now _ _ c.lent_fits-fits.ensures (refusal_wanted c.args.s c.wants.result c.args.a _ _ c.wants.ensures c.in-None.ensures) refl
+    answer_fits c.args.s (held c.args.at) c.args.a c.args.v.now c.args.plan.now c.args.xi.now _ _ c.lent_fits-fits.ensures (refusal_wanted c.args.s c.wants.result c.args.a _ _ c.wants.ensures c.in-None.ensures) refl
 
 pub hand_out-requires : goal.hand_out-requires
 hand_out-requires c =
-    let b : LoopBoard = twelve c.args.u.now c.args.candidate.now c.args.gradient.now c.args.previous.now c.args.step.now c.args.half.now c.args.fpr.now c.args.direction.now c.args.best.now c.args.y.now c.args.plus.now c.args.w.now in
-    answer_plan c.args.s b c.args.a c.args.v.now c.args.plan.now c.args.xi.now _ _ c.lent_fits-fits.ensures (refusal_wanted c.args.s c.wants.result c.args.a _ _ c.wants.ensures c.in-None.ensures) refl
+    answer_plan c.args.s (held c.args.at) c.args.a c.args.v.now c.args.plan.now c.args.xi.now _ _ c.lent_fits-fits.ensures (refusal_wanted c.args.s c.wants.result c.args.a _ _ c.wants.ensures c.in-None.ensures) refl
 
 pub hand_out_xi-requires : goal.hand_out_xi-requires
 hand_out_xi-requires c =
-    let b : LoopBoard = twelve c.args.u.now c.args.candidate.now c.args.gradient.now c.args.previous.now c.args.step.now c.args.half.now c.args.fpr.now c.args.direction.now c.args.best.now c.args.y.now c.args.plus.now c.args.w.now in
-    answer_xi c.args.s b c.args.a c.args.v.now c.args.plan.now c.args.xi.now _ _ c.lent_fits-fits.ensures (refusal_wanted c.args.s c.wants.result c.args.a _ _ c.wants.ensures c.in-None.ensures) refl
+    answer_xi c.args.s (held c.args.at) c.args.a c.args.v.now c.args.plan.now c.args.xi.now _ _ c.lent_fits-fits.ensures (refusal_wanted c.args.s c.wants.result c.args.a _ _ c.wants.ensures c.in-None.ensures) refl
 
 pub returns-in-None : goal.returns-in-None
 returns-in-None c =
-    let b : LoopBoard = twelve c.args.u.now c.args.candidate.now c.args.gradient.now c.args.previous.now c.args.step.now c.args.half.now c.args.fpr.now c.args.direction.now c.args.best.now c.args.y.now c.args.plus.now c.args.w.now in
-    answer_goes c.args.s b c.args.a c.args.v.now c.args.plan.now c.args.xi.now _ _ c.lent_fits-fits.ensures (refusal_wanted c.args.s c.wants.result c.args.a _ _ c.wants.ensures c.in-None.ensures) _ _ _ _ refl c.take-r.ensures c.hand_out.ensures c.hand_out_xi.ensures
+    answer_goes c.args.s (held c.args.at) c.args.a c.args.v.now c.args.plan.now c.args.xi.now _ _ c.lent_fits-fits.ensures (refusal_wanted c.args.s c.wants.result c.args.a _ _ c.wants.ensures c.in-None.ensures) _ _ _ _ refl c.take-r.ensures c.hand_out.ensures c.hand_out_xi.ensures
 
 pub returns-in-Some : goal.returns-in-Some
 returns-in-Some c =
-    let b : LoopBoard = twelve c.args.u.now c.args.candidate.now c.args.gradient.now c.args.previous.now c.args.step.now c.args.half.now c.args.fpr.now c.args.direction.now c.args.best.now c.args.y.now c.args.plus.now c.args.w.now in
-    answer_refused c.args.s b c.args.a c.args.v.now c.args.plan.now c.args.xi.now _ _ c.lent_fits-fits.ensures (refusal_wanted c.args.s c.wants.result c.args.a _ _ c.wants.ensures c.in-Some.ensures) (refusal_some _)
+    answer_refused c.args.s (held c.args.at) c.args.a c.args.v.now c.args.plan.now c.args.xi.now _ _ c.lent_fits-fits.ensures (refusal_wanted c.args.s c.wants.result c.args.a _ _ c.wants.ensures c.in-Some.ensures) (refusal_some _)
