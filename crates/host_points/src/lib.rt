@@ -8,10 +8,12 @@ ghost use Rattle.image.specs.Image.{solve_of};
 ghost use Rattle.host_points.specs.Places.{place_of, Lies};
 
 use image::kinds::phase_of;
+use image::lent::LentRead;
 use image::places::PHASE;
 use image::told::number_in;
 use image_solve::solve_of;
 use panoc_core::panoc_cache::Phase;
+use panoc_places::lent::PointVectors;
 use panoc_points::points_in_place;
 
 // The points of the question of a run: 0, or 6 where it has ended and 8 where a slice is not as long as its point.
@@ -31,17 +33,15 @@ pub extern "C" fn pozkerrin_inner_points<'a>(
 ) -> u32
     ensures { (b : Board) → Points (run_of (solve_of w.now k.now f.now) (asked u.now plus.now step.now half.now fpr.now best.now b)) first.old first.new second.old second.new result }
 {
-    let done = points_in_place(
-        solve_of(w, k, f),
-        first,
-        second,
+    let at = PointVectors {
         u,
         plus,
         step,
         half,
         fpr,
         best,
-    );
+    };
+    let done = points_in_place(solve_of(LentRead { w, k, f }), first, second, at);
     number_in(done)
 }
 

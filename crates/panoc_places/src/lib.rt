@@ -2,8 +2,12 @@
 #![tactic(auto)]
 
 ghost use Rattle.std.specs.Prelude.{◌≡◌, ◌≤◌, length};
-ghost use Rattle.panoc_core.specs.Board.{Board, run_of, asked, first_places, second_places, first_at};
+ghost use Rattle.panoc_core.specs.Board.{Board, run_of, first_places, second_places, first_at};
+ghost use Rattle.panoc_places.specs.LentPoints.{held};
 
+pub mod lent;
+
+use lent::PointVectors;
 use panoc_core::panoc_cache::{Phase, Solve};
 
 // How many places the first point of the question has.
@@ -34,29 +38,20 @@ pub fn second_places_at(n: usize, phase: Phase) -> usize
 }
 
 // The first point of the question that the run waits with.
-pub fn first_point(
-    s: Solve,
-    first: &mut [f64],
-    u: &[f64; 64],
-    plus: &[f64; 64],
-    step: &[f64; 64],
-    half: &[f64; 64],
-    fpr: &[f64; 64],
-    best: &[f64; 64],
-)
+pub fn first_point<'a>(s: Solve, first: &mut [f64], at: PointVectors<'a>)
     requires { (s.set.n ≤ 64) × (length first.old ≡ first_places s.set.n s.phase) }
-    ensures { (b : Board) → first.new ≡ first_at (run_of s (asked u.now plus.now step.now half.now fpr.now best.now b)) s.phase first.old }
+    ensures { (b : Board) → first.new ≡ first_at (run_of s (held at.entry b)) s.phase first.old }
 {
     match s.phase {
         Phase::Cost | Phase::Gradient | Phase::Shifted | Phase::FirstCost | Phase::FirstGradient =>
-            vector_copies::give(u, first),
+            vector_copies::give(at.u, first),
         Phase::Project | Phase::DoubledProject | Phase::FirstProject | Phase::TriedProject => {
-            vector_copies::give(step, first)
+            vector_copies::give(at.step, first)
         }
-        Phase::HalfCost | Phase::DoubledCost => vector_copies::give(half, first),
-        Phase::Direction => vector_copies::give(fpr, first),
-        Phase::TriedCost | Phase::TriedGradient => vector_copies::give(plus, first),
-        Phase::LastCost => vector_copies::give(best, first),
+        Phase::HalfCost | Phase::DoubledCost => vector_copies::give(at.half, first),
+        Phase::Direction => vector_copies::give(at.fpr, first),
+        Phase::TriedCost | Phase::TriedGradient => vector_copies::give(at.plus, first),
+        Phase::LastCost => vector_copies::give(at.best, first),
         Phase::Time | Phase::Over => {}
     }
 }

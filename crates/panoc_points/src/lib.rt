@@ -3,11 +3,13 @@
 
 ghost use Rattle.std.specs.Prelude.{◌≡◌};
 ghost use Rattle.panoc_core.specs.Told.{number_in};
-ghost use Rattle.panoc_core.specs.Board.{Board, run_of, wanted_of, waiting, asked};
+ghost use Rattle.panoc_core.specs.Board.{Board, run_of, wanted_of, waiting};
 ghost use Rattle.panoc_core.specs.Calls.{Points};
+ghost use Rattle.panoc_places.specs.LentPoints.{held};
 
 use panoc_core::outcome::Refusal;
 use panoc_core::panoc_cache::{Run, Solve};
+use panoc_places::lent::PointVectors;
 use panoc_places::{first_places, first_point, second_places};
 use panoc_wanted::{waits, wants};
 
@@ -23,14 +25,9 @@ pub fn points_in_place<'a>(
     s: Solve,
     first: &mut [f64],
     second: &mut [f64],
-    u: &'a [f64; 64],
-    plus: &'a [f64; 64],
-    step: &'a [f64; 64],
-    half: &'a [f64; 64],
-    fpr: &'a [f64; 64],
-    best: &'a [f64; 64],
+    at: PointVectors<'a>,
 ) -> Result<(), Refusal>
-    ensures { (b : Board) → Points (run_of s (asked u.now plus.now step.now half.now fpr.now best.now b)) first.old first.new second.old second.new (number_in result) }
+    ensures { (b : Board) → Points (run_of s (held at.entry b)) first.old first.new second.old second.new (number_in result) }
 {
     if !is_waiting(s) {
         return Err(Refusal::Over);
@@ -38,8 +35,8 @@ pub fn points_in_place<'a>(
     if first.len() != first_places(s) || second.len() != second_places(s) {
         return Err(Refusal::Lengths);
     }
-    first_point(s, first, u, plus, step, half, fpr, best);
-    vector_copies::give(u, second);
+    first_point(s, first, at);
+    vector_copies::give(at.u, second);
     Ok(())
 }
 
@@ -47,15 +44,13 @@ pub fn points_in_place<'a>(
 pub fn points(run: Run, first: &mut [f64], second: &mut [f64]) -> Result<(), Refusal>
     ensures { Points run first.old first.new second.old second.new (number_in result) }
 {
-    points_in_place(
-        run.solve,
-        first,
-        second,
-        &run.u,
-        &run.u_plus,
-        &run.gradient_step,
-        &run.u_half_step,
-        &run.gamma_fpr,
-        &run.best_u_half_step,
-    )
+    let at = PointVectors {
+        u: &run.u,
+        plus: &run.u_plus,
+        step: &run.gradient_step,
+        half: &run.u_half_step,
+        fpr: &run.gamma_fpr,
+        best: &run.best_u_half_step,
+    };
+    points_in_place(run.solve, first, second, at)
 }
