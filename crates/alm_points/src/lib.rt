@@ -1,4 +1,4 @@
-// The points of the question that a run of the loop waits with. The vectors are lent one by one, since C lends each as an array of its own.
+// The points of the question that a run of the loop waits with.
 #![tactic(auto)]
 
 ghost use Rattle.std.specs.Prelude.{◌≡◌, ◌≤◌};
@@ -6,12 +6,15 @@ ghost use Rattle.alm_core.specs.Rest.{LoopBoard};
 ghost use Rattle.model.specs.Refusals as R;
 ghost use Rattle.panoc_core.specs.Told.{number_in};
 ghost use Rattle.alm_calls.specs.LoopCalls.{run_of, Points};
-ghost use Rattle.alm_vectors.specs.LoopPoints.{first_places, inner_second, second_places, asked};
+ghost use Rattle.alm_vectors.specs.LoopPoints.{first_places, inner_second, second_places};
+ghost use Rattle.alm_vectors.specs.LentLoopPoints.{held};
 
 use alm_core::alm_cache::{Alm, AlmPhase, AlmRun};
+use alm_vectors::lent::LoopPointVectors;
 use alm_vectors::{carries_xi_at, first_point, second_point};
 use alm_wanted::is_waiting;
 use panoc_core::outcome::Refusal;
+use panoc_places::lent::PointVectors;
 
 // How many places xi has: none where n1 = n2 = 0, else the penalty's and n1.
 #[tactic(auto, unfolding(model::specs::Refusals::xi_length))]
@@ -59,20 +62,13 @@ pub fn second_places(s: Alm) -> usize
 }
 
 // The points of the question of a run in place, refused where it has ended and where a slice is not as long as its point.
-pub fn points_in_place(
+pub fn points_in_place<'a>(
     s: Alm,
     first: &mut [f64],
     second: &mut [f64],
-    u: &[f64; 64],
-    candidate: &[f64; 64],
-    step: &[f64; 64],
-    half: &[f64; 64],
-    fpr: &[f64; 64],
-    best: &[f64; 64],
-    y: &[f64; 64],
-    plus: &[f64; 64],
+    at: LoopPointVectors<'a>,
 ) -> Result<(), Refusal>
-    ensures { (b : LoopBoard) → Points (run_of s (asked u.now candidate.now step.now half.now fpr.now best.now y.now plus.now b)) first.old first.new second.old second.new (number_in result) }
+    ensures { (b : LoopBoard) → Points (run_of s (held at.entry b)) first.old first.new second.old second.new (number_in result) }
 {
     if !is_waiting(s) {
         return Err(Refusal::Over);
@@ -80,8 +76,8 @@ pub fn points_in_place(
     if first.len() != first_places(s) || second.len() != second_places(s) {
         return Err(Refusal::Lengths);
     }
-    first_point(s, first, u, candidate, step, half, fpr, best, y, plus);
-    second_point(s, second, u, y);
+    first_point(s, first, at);
+    second_point(s, second, at.inner.u, at.y);
     Ok(())
 }
 
@@ -89,17 +85,18 @@ pub fn points_in_place(
 pub fn points(run: AlmRun, first: &mut [f64], second: &mut [f64]) -> Result<(), Refusal>
     ensures { Points run first.old first.new second.old second.new (number_in result) }
 {
-    points_in_place(
-        run.alm,
-        first,
-        second,
-        &run.u,
-        &run.u_plus,
-        &run.gradient_step,
-        &run.u_half_step,
-        &run.gamma_fpr,
-        &run.best_u_half_step,
-        &run.y,
-        &run.y_plus,
-    )
+    let inner = PointVectors {
+        u: &run.u,
+        plus: &run.u_plus,
+        step: &run.gradient_step,
+        half: &run.u_half_step,
+        fpr: &run.gamma_fpr,
+        best: &run.best_u_half_step,
+    };
+    let at = LoopPointVectors {
+        inner,
+        y: &run.y,
+        plus: &run.y_plus,
+    };
+    points_in_place(run.alm, first, second, at)
 }

@@ -1,2 +1,3 @@
 pub mod LoopPoints
 pub mod VectorLaws
+pub mod LentLoopPoints

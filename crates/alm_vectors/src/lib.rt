@@ -1,14 +1,17 @@
 // The vectors that the points of the loop's question are copied from, by the phase: each arm names its vector, which a closure would not say plainer.
-// They are lent one by one: C lends each as an array of its own, and a struct of references for eight of them would be made for one call alone.
 #![tactic(auto)]
 
 ghost use Rattle.std.specs.Prelude.{◌≡◌, length, ◌≤◌};
 ghost use Rattle.alm_core.specs.Rest.{LoopBoard};
 ghost use Rattle.alm_core.specs.Board.{Sound};
-ghost use Rattle.alm_vectors.specs.LoopPoints.{carries_xi, first_places, inner_second, second_places, first_at, inner_second_at, second_at_phase, asked};
+ghost use Rattle.alm_vectors.specs.LoopPoints.{carries_xi, first_places, inner_second, second_places, first_at, inner_second_at, second_at_phase};
+ghost use Rattle.alm_vectors.specs.LentLoopPoints.{held};
+
+pub mod lent;
 
 use alm_calls::lent::fill_xi;
 use alm_core::alm_cache::{Alm, AlmPhase};
+use lent::LoopPointVectors;
 use panoc_core::panoc_cache::Phase;
 
 // Whether the inner solve's question at a phase comes with xi: COST and GRADIENT do.
@@ -28,29 +31,16 @@ pub fn carries_xi_at(phase: Phase) -> bool
 }
 
 // The first point of the question that the run waits with.
-pub fn first_point(
-    s: Alm,
-    first: &mut [f64],
-    u: &[f64; 64],
-    candidate: &[f64; 64],
-    step: &[f64; 64],
-    half: &[f64; 64],
-    fpr: &[f64; 64],
-    best: &[f64; 64],
-    y: &[f64; 64],
-    plus: &[f64; 64],
-)
+pub fn first_point<'a>(s: Alm, first: &mut [f64], at: LoopPointVectors<'a>)
     requires { (Sound s) × (length first.old ≡ first_places s s.phase) }
-    ensures { (b : LoopBoard) → first.new ≡ first_at s (asked u.now candidate.now step.now half.now fpr.now best.now y.now plus.now b) s.phase first.old }
+    ensures { (b : LoopBoard) → first.new ≡ first_at s (held at.entry b) s.phase first.old }
 {
     match s.phase {
-        AlmPhase::ProjectY => vector_copies::give(y, first),
-        AlmPhase::Inner => panoc_places::first_point(
-            s.solve, first, u, candidate, step, half, fpr, best,
-        ),
-        AlmPhase::F1 | AlmPhase::F2 => vector_copies::give(best, first),
-        AlmPhase::ProjectC => vector_copies::give(plus, first),
-        AlmPhase::LastCost => vector_copies::give(u, first),
+        AlmPhase::ProjectY => vector_copies::give(at.y, first),
+        AlmPhase::Inner => panoc_places::first_point(s.solve, first, at.inner),
+        AlmPhase::F1 | AlmPhase::F2 => vector_copies::give(at.inner.best, first),
+        AlmPhase::ProjectC => vector_copies::give(at.plus, first),
+        AlmPhase::LastCost => vector_copies::give(at.inner.u, first),
         AlmPhase::Time | AlmPhase::Over => {}
     }
 }

@@ -9,7 +9,9 @@ ghost use Rattle.alm_image.specs.AlmImage.{alm_of};
 use alm_image::lent::alm_of;
 use alm_image::records::LoopRead;
 use alm_points::points_in_place;
+use alm_vectors::lent::LoopPointVectors;
 use image::told::number_in;
+use panoc_places::lent::PointVectors;
 
 // The points of the question of a run: 0, or 6 where it has ended and 8 where a slice is not as long as its point.
 #[unsafe(no_mangle)]
@@ -41,8 +43,14 @@ pub extern "C" fn pozkerrin_loop_points<'a>(
         lk,
         lf,
     });
-    let done = points_in_place(
-        s, first, second, u, candidate, step, half, fpr, best, y, plus,
-    );
+    let inner = PointVectors {
+        u,
+        plus: candidate,
+        step,
+        half,
+        fpr,
+        best,
+    };
+    let done = points_in_place(s, first, second, LoopPointVectors { inner, y, plus });
     number_in(done)
 }
