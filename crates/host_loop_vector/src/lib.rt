@@ -4,6 +4,8 @@
 ghost use Rattle.alm_calls.specs.LoopCalls.{Answers, before, after, run_of, gave};
 ghost use Rattle.alm_image.specs.AlmImage.{alm_of, told_of};
 
+use alm_core::lent::LoopVectors;
+use alm_image::records::{LoopLent, LoopRead};
 use alm_waiting::wants;
 use image_solve::refuse;
 use lent_accepted::answer_accepted;
@@ -38,20 +40,32 @@ pub extern "C" fn pozkerrin_loop_vector(
 ) -> u32
     ensures { Answers (run_of (alm_of w.old k.old f.old lw.old lk.old lf.old) (before u candidate gradient previous step half fpr direction best y plus f1)) Reply.Vector v.now plan.old plan.new xi.old xi.new (gave (told_of result w.new k.new f.new lw.new lk.new lf.new) (after u candidate gradient previous step half fpr direction best y plus f1)) }
 {
-    let wanted = wants(w, k, f, lw, lk, lf);
+    let wanted = wants(LoopRead {
+        w,
+        k,
+        f,
+        lw,
+        lk,
+        lf,
+    });
     let fits = fits(lk, plan.len(), xi.len());
-    match refusal(wanted, Reply::Vector, v.len(), fits) {
-        None => answer_accepted(
+    if let Some(refusal) = refusal(wanted, Reply::Vector, v.len(), fits) {
+        return refuse(refusal, w);
+    }
+    return answer_accepted(
+        LoopLent {
             w,
             k,
             f,
             lw,
             lk,
             lf,
-            Reply::Vector,
-            v,
-            plan,
-            xi,
+        },
+        Reply::Vector,
+        v,
+        plan,
+        xi,
+        LoopVectors {
             u,
             candidate,
             gradient,
@@ -63,8 +77,7 @@ pub extern "C" fn pozkerrin_loop_vector(
             best,
             y,
             plus,
-            f1,
-        ),
-        Some(refusal) => refuse(refusal, w),
-    }
+            w: f1,
+        },
+    );
 }
