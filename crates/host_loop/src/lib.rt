@@ -5,6 +5,8 @@ ghost use Rattle.alm_calls.specs.LoopCalls.{before, after, run_of, gave};
 ghost use Rattle.alm_image.specs.AlmImage.{alm_of, told_of};
 ghost use Rattle.host_loop.specs.Exports.{Exported};
 
+use alm_core::lent::LoopVectors;
+use alm_image::records::{LoopLent, LoopRead};
 use alm_waiting::wants;
 use image::kinds::reply_of;
 use image_solve::{refuse, strange};
@@ -43,17 +45,48 @@ pub extern "C" fn pozkerrin_loop_answer(
 ) -> u32
     ensures { Exported kind x code v.now plan.old plan.new xi.old xi.new (run_of (alm_of w.old k.old f.old lw.old lk.old lf.old) (before u candidate gradient previous step half fpr direction best y plus f1)) (gave (told_of result w.new k.new f.new lw.new lk.new lf.new) (after u candidate gradient previous step half fpr direction best y plus f1)) }
 {
-    let wanted = wants(w, k, f, lw, lk, lf);
+    let wanted = wants(LoopRead {
+        w,
+        k,
+        f,
+        lw,
+        lk,
+        lf,
+    });
     if 4 < kind {
         return refuse(strange(waits(wanted)), w);
     }
     let a = reply_of(kind, x, code);
     let fits = fits(lk, plan.len(), xi.len());
-    match refusal(wanted, a, v.len(), fits) {
-        None => answer_accepted(
-            w, k, f, lw, lk, lf, a, v, plan, xi, u, candidate, gradient, previous, step, half, fpr,
-            direction, best, y, plus, f1,
-        ),
-        Some(refusal) => refuse(refusal, w),
+    if let Some(refusal) = refusal(wanted, a, v.len(), fits) {
+        return refuse(refusal, w);
     }
+    return answer_accepted(
+        LoopLent {
+            w,
+            k,
+            f,
+            lw,
+            lk,
+            lf,
+        },
+        a,
+        v,
+        plan,
+        xi,
+        LoopVectors {
+            u,
+            candidate,
+            gradient,
+            previous,
+            step,
+            half,
+            fpr,
+            direction,
+            best,
+            y,
+            plus,
+            w: f1,
+        },
+    );
 }
