@@ -8,8 +8,11 @@ ghost use Rattle.alm_image.specs.AlmImage.{alm_of, told_of};
 ghost use Rattle.host_loop_number.specs.Eight.{eight};
 
 use alm_core::alm_cache::AlmPhase;
+use alm_core::lent::OuterVectors;
 use alm_image::places::PHASE;
+use alm_image::records::{LoopLent, LoopRead};
 use alm_waiting::wants;
+use image::lent::{CostVectors, Lent};
 use image_solve::refuse;
 use lent_loop::carry;
 use lent_own::own_number;
@@ -41,14 +44,58 @@ pub extern "C" fn pozkerrin_loop_number(
 ) -> u32
     ensures { (b : LoopBoard) → Answers (run_of (alm_of w.old k.old f.old lw.old lk.old lf.old) (eight u.old gradient.now step.old half.now fpr.old best.now y.old plus.now b)) (Reply.Number x) [] plan.old plan.new xi.old xi.new (gave (told_of result w.new k.new f.new lw.new lk.new lf.new) (eight u.new gradient.now step.new half.now fpr.new best.now y.new plus.now b)) }
 {
-    let wanted = wants(w, k, f, lw, lk, lf);
+    let wanted = wants(LoopRead {
+        w,
+        k,
+        f,
+        lw,
+        lk,
+        lf,
+    });
     let fits = fits(lk, plan.len(), xi.len());
     if let Some(refusal) = refusal(wanted, Reply::Number(x), 0, fits) {
         return refuse(refusal, w);
     }
     if lw[PHASE] == AlmPhase::Inner as u32 {
-        let o = on_number(x, w, k, f, u, gradient, step, half, fpr);
-        return carry(o, w, k, f, lw, lk, lf, plan, xi, u, best, y, plus);
+        let o = on_number(
+            x,
+            Lent { w, k, f },
+            CostVectors {
+                u,
+                gradient,
+                step,
+                half,
+                fpr,
+            },
+        );
+        return carry(
+            o,
+            LoopLent {
+                w,
+                k,
+                f,
+                lw,
+                lk,
+                lf,
+            },
+            plan,
+            xi,
+            OuterVectors { u, best, y, plus },
+        );
     }
-    own_number(x, w, k, f, lw, lk, lf, plan, xi, u, plus)
+    return own_number(
+        x,
+        LoopLent {
+            w,
+            k,
+            f,
+            lw,
+            lk,
+            lf,
+        },
+        plan,
+        xi,
+        u,
+        plus,
+    );
 }
