@@ -1,4 +1,4 @@
-// The numbers of the Lipschitz estimate and of its tests.
+// The numbers of the Lipschitz estimate and of its tests. An array with a count, as vector_copies has it.
 ghost use Rattle.std.specs.Prelude.{◌≡◌, ◌&&◌, ◌≤◌};
 ghost use Rattle.std.specs.Float.{binary64};
 ghost use Rattle.std.specs.Float.Ieee.{lt};

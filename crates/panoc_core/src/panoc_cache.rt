@@ -1,4 +1,4 @@
-// The records of an inner solve: what it is given, where it stands, its vectors.
+// The records of an inner solve: what it is given, where it stands, its vectors. An array with a count, as vector_copies has it.
 ghost use Rattle.std.specs.Prelude.{◌≡◌, cond, ◌≤◌, eqb};
 ghost use Rattle.std.specs.Float.{binary64};
 ghost use Rattle.matrix_operations.specs.Firsts.{firsts};

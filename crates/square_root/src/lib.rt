@@ -21,7 +21,7 @@ struct Scaled {
     j: u64,
 }
 
-// The size of a number above zero as m * 2^54 * 4^j squares of the smallest value. A subnormal is shifted up by two digits at a time.
+// The size of a number above zero as m * 2^54 * 4^j squares of the smallest value. A subnormal is shifted up at once, by an even count.
 fn parts(b: u64) -> Scaled
     requires { (0 < b) × (b < 9218868437227405312) }
     ensures { (2 ^ 52 ≤ result.m) × (result.m < 18014398509481983) × (result.j ≤ 1532) × (Sized binary64 b result.m result.j) }

@@ -1,5 +1,6 @@
 // Vectors copied, into an array of 64 and out of one; zeros, and infinity.
 // An array with a count, as C lends it: with slices, tried and as fast, each caller owes bounds, and that a slice holds the first places.
+// Each copy is std's copy_from_slice, in a function that says what comes of it at the first places: else each caller would cite that law.
 #![tactic(auto)]
 
 ghost use Rattle.std.specs.Prelude.{◌≡◌, false, ◌≤◌, length, replicate};

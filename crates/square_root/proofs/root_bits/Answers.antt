@@ -7,9 +7,6 @@ use Rattle.square_root.proofs.root_bits.Goals as goal
 q-lt : (c : goal.After-nearest) → c.nearest.result < 2 ^ 53
 q-lt c = near_hi binary64 c.parts-m.result.m c.nearest.result c.parts-m.ensures.0 c.parts-m.ensures.1 c.nearest.ensures
 
-pub overflow_add-result-2 : goal.overflow_add-result-2
-overflow_add-result-2 c = omega (arith, q-lt c)
-
 pub returns : goal.returns
 returns c =
     let s = c.parts-m.result in
