@@ -57,7 +57,7 @@ pub fn settings_given(
     }
 }
 
-// The settings that the lent numbers stand for.
+// The settings that the lent numbers stand for. No impl of From, which would say by a ghost member what the clause says here.
 pub fn settings_of<'a>(run: LoopRead<'a>) -> AlmSettings
     ensures { result ≡ settings_in run.entry }
 {
@@ -80,7 +80,7 @@ pub fn settings_of<'a>(run: LoopRead<'a>) -> AlmSettings
     }
 }
 
-// The running numbers.
+// The running numbers. An impl of From would have to stand beside the record, in alm_core, which knows no layout of C.
 pub fn numbers_of(lf: &[f64; 17]) -> AlmNumbers
     ensures { result ≡ numbers_of lf.now }
 {
@@ -95,7 +95,7 @@ pub fn numbers_of(lf: &[f64; 17]) -> AlmNumbers
     }
 }
 
-// The small part of the run that the lent numbers stand for.
+// The small part of the run that the lent numbers stand for. No impl of From, as for settings_of.
 pub fn alm_of<'a>(run: LoopRead<'a>) -> Alm
     ensures { result ≡ loop_in run.entry }
 {
@@ -159,7 +159,7 @@ pub fn begin<'a>(set: AlmSettings, run: LoopLent<'a>)
     ];
 }
 
-// The phase of a run and the end that it hands back, into lw.
+// The phase of a run and the end that it hands back, into lw, each at the place that C reads.
 fn keep_flags(s: Alm, lw: &mut [u32; 4])
     ensures { lw.new ≡ with_flags s lw.old }
 {
@@ -167,7 +167,7 @@ fn keep_flags(s: Alm, lw: &mut [u32; 4])
     lw[STATUS] = status_number(s.status);
 }
 
-// The counts of a run, into lk.
+// The counts of a run, into lk, each at the place that C reads.
 fn keep_counts(s: Alm, lk: &mut [usize; 10])
     ensures { lk.new ≡ with_counts s lk.old }
 {
@@ -177,7 +177,7 @@ fn keep_counts(s: Alm, lk: &mut [usize; 10])
     lk[FOUND] = s.found.0;
 }
 
-// The running numbers into lf.
+// The running numbers into lf, each at the place that C reads.
 fn keep_numbers(x: AlmNumbers, lf: &mut [f64; 17])
     ensures { lf.new ≡ with_numbers x lf.old }
 {
@@ -190,7 +190,7 @@ fn keep_numbers(x: AlmNumbers, lf: &mut [f64; 17])
     lf[NORM_FPR] = x.norm_fpr;
 }
 
-// The small part of a run, into lent numbers that have its settings.
+// The small part of a run, into lent numbers that have its settings, each at the place that C reads.
 pub fn keep_alm<'a>(s: Alm, run: LoopLent<'a>)
     requires { settings_held run ≡ s.set }
     ensures { loop_left run.exit ≡ s }
@@ -226,7 +226,7 @@ fn note_ends(
     lf[END_PENALTY] = penalty;
 }
 
-// What a call gives, told in the lent numbers; its kind is the result.
+// What a call gives, told in the lent numbers; its kind is the result, a number since C reads it.
 pub fn tell_alm<'a>(o: AlmOutcome, run: LoopLent<'a>) -> u32
     ensures told { LoopTells (numbered o) result run.entry run.exit }
     ensures flags { SameFlags run.entry run.exit }
@@ -274,7 +274,7 @@ pub fn tell_alm<'a>(o: AlmOutcome, run: LoopLent<'a>) -> u32
     }
 }
 
-// What a step of the loop gave, kept and told.
+// What a step of the loop gave, kept and told; its kind is the result, a number since C reads it.
 pub fn keep_step<'a>(o: AlmStepped, run: LoopLent<'a>) -> u32
     requires { settings_held run ≡ o.state.set }
     ensures { loop_told result run.exit ≡ told o }

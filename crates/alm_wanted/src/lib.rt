@@ -8,7 +8,7 @@ ghost use Rattle.alm_core.specs.declared.alm_cache.AlmPhase.TheVariants as P;
 ghost use Rattle.alm_calls.specs.LoopCalls.{wanted_at, wanted_of};
 ghost use Rattle.panoc_core.specs.Board.{waiting};
 
-use alm_core::alm_cache::{Alm, AlmPhase};
+use alm_core::alm_cache::{Alm, AlmPhase, AlmSettings};
 use panoc_core::refusals::Wanted;
 use panoc_wanted::waits;
 
@@ -33,9 +33,15 @@ pub fn is_counted(left: usize, outer: usize, inner: usize, found: usize, same: b
 pub fn is_sound(s: Alm) -> bool
     ensures { result ≡ sound s }
 {
-    let set = s.set;
-    let same = s.solve.set.n == set.n;
-    is_sized(set.n, set.n1, set.n2, set.max_inner_iterations)
+    let AlmSettings {
+        n,
+        n1,
+        n2,
+        max_inner_iterations,
+        ..
+    } = s.set;
+    let same = s.solve.set.n == n;
+    is_sized(n, n1, n2, max_inner_iterations)
         && (matches!(s.phase, AlmPhase::LastCost)
             || is_counted(s.left, s.outer.0, s.inner.0, s.found.0, same))
 }

@@ -13,6 +13,7 @@ use panoc_plan::hand_out;
 use panoc_wanted::{waits, wants_lent};
 
 // An answer to the question of a run; a plan goes into the lent slice.
+// host_c has a function of this name that calls this one: a crate is a library or a static library, not both.
 #[unsafe(no_mangle)]
 pub extern "C" fn pozkerrin_inner_answer(
     w: &mut [u32; 6],

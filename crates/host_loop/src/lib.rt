@@ -16,6 +16,7 @@ use panoc_core::refusals::refusal;
 use panoc_wanted::waits;
 
 // An answer to the question of a run; a plan and the multipliers go into the lent slices.
+// host_c has a function of this name that calls this one: a crate is a library or a static library, not both.
 #[unsafe(no_mangle)]
 pub extern "C" fn pozkerrin_loop_answer(
     w: &mut [u32; 6],

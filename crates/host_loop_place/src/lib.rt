@@ -14,7 +14,7 @@ use host_points::place_of;
 use image::kinds::phase_of;
 use panoc_core::panoc_cache::Phase;
 
-// The vector that holds the first point of a question of the loop itself: 0 u, 5 the best half step, 6 y, 7 y_plus.
+// The vector that holds the first point of a question of the loop itself: 0 u, 5 the best half step, 6 y, 7 y_plus. A number, since C reads it.
 fn own_place_of(phase: AlmPhase) -> u32
     requires { phase ≡ P.Inner → ⊥ }
     ensures { (p : Phase) → result ≡ place_of phase p }

@@ -14,6 +14,7 @@ use image::told::number_in;
 use panoc_places::lent::PointVectors;
 
 // The points of the question of a run: 0, or 6 where it has ended and 8 where a slice is not as long as its point.
+// host_c has a function of this name that calls this one: a crate is a library or a static library, not both.
 #[unsafe(no_mangle)]
 pub extern "C" fn pozkerrin_loop_points<'a>(
     w: &[u32; 6],

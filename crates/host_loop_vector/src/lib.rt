@@ -14,6 +14,7 @@ use panoc_core::panoc_cache::Reply;
 use panoc_core::refusals::refusal;
 
 // The vector v for the question of a run; a plan and the multipliers go into the lent slices.
+// host_loop_vector_c has a function of this name that calls this one: a crate is a library or a static library, not both.
 #[unsafe(no_mangle)]
 pub extern "C" fn pozkerrin_loop_vector(
     w: &mut [u32; 6],

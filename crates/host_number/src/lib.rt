@@ -16,6 +16,7 @@ use panoc_plan::hand_out;
 use panoc_wanted::wants_lent;
 
 // The number x for the question of a run; a plan goes into the lent slice.
+// host_number_c has a function of this name that calls this one: a crate is a library or a static library, not both.
 #[unsafe(no_mangle)]
 pub extern "C" fn pozkerrin_inner_number(
     w: &mut [u32; 6],

@@ -10,6 +10,7 @@ use image_solve::{keep_settings, settings_given, tell};
 use panoc_starts::start_in_place;
 
 // A run that is begun at the lent slice, or its refusal.
+// host_c has a function of this name that calls this one: a crate is a library or a static library, not both.
 #[unsafe(no_mangle)]
 pub extern "C" fn pozkerrin_inner_start(
     w: &mut [u32; 6],

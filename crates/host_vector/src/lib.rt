@@ -15,6 +15,7 @@ use panoc_plan::hand_out;
 use panoc_wanted::wants_lent;
 
 // The vector v for the question of a run; a plan goes into the lent slice.
+// host_vector_c has a function of this name that calls this one: a crate is a library or a static library, not both.
 #[unsafe(no_mangle)]
 pub extern "C" fn pozkerrin_inner_vector(
     w: &mut [u32; 6],

@@ -13,7 +13,7 @@ use image::places::{
 };
 use panoc_core::panoc_cache::{Numbers, Solve};
 
-// The running numbers into f.
+// The running numbers into f, each at the place that C reads.
 fn keep_numbers(x: Numbers, f: &mut [f64; 13])
     ensures { f.new ≡ with_numbers x f.old }
 {
@@ -28,7 +28,7 @@ fn keep_numbers(x: Numbers, f: &mut [f64; 13])
     f[NORM_H] = x.norm_h;
 }
 
-// The small part of a run, into lent numbers that have its settings.
+// The small part of a run, into lent numbers that have its settings, each at the place that C reads.
 pub fn keep<'a>(s: Solve, run: Lent<'a>)
     requires { settings_in run ≡ s.set }
     ensures { small_left run.exit ≡ s }

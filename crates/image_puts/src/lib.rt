@@ -83,7 +83,7 @@ pub fn put_norm_h(norm_h: f64, f: &mut [f64; 13])
     f[NORM_H] = norm_h;
 }
 
-// The running numbers.
+// The running numbers. An impl of From would have to stand beside the record, in panoc_core, which knows no layout of C.
 pub fn numbers_of(f: &[f64; 13]) -> Numbers
     ensures { result ≡ numbers_of f.now }
 {

@@ -40,7 +40,7 @@ pub fn settings_given(
     }
 }
 
-// The small part of the run that the lent numbers stand for.
+// The small part of the run that the lent numbers stand for. An impl of From would have to stand beside one of the two records, in image or panoc_core.
 pub fn solve_of<'a>(run: LentRead<'a>) -> Solve
     ensures { result ≡ small_read run.entry }
 {
@@ -64,7 +64,7 @@ pub fn solve_of<'a>(run: LentRead<'a>) -> Solve
     }
 }
 
-// The settings of a solve into the lent numbers; the rest is put at 0.
+// The settings of a solve into the lent numbers, each at the place that C reads; the rest is put at 0.
 pub fn keep_settings<'a>(set: Settings, run: Lent<'a>)
     ensures { settings_left run.exit ≡ set }
 {
@@ -98,7 +98,7 @@ pub fn store<'a>(s: Solve, run: Lent<'a>)
     keep(s, Lent { w, k, f });
 }
 
-// What a call gives, told in the lent numbers; its kind is the result.
+// What a call gives, told in the lent numbers; its kind is the result, a number since C reads it.
 pub fn tell<'a>(o: Outcome, run: Lent<'a>) -> u32
     ensures { TellsAt (numbered o) result run.entry run.exit }
 {
@@ -131,7 +131,7 @@ pub fn strange(waits: bool) -> Refusal
     if waits { Refusal::Kind } else { Refusal::Over }
 }
 
-// A refusal, told in the lent numbers.
+// A refusal, told in the lent numbers; its kind is the result, a number since C reads it.
 pub fn refuse(refusal: Refusal, w: &mut [u32; 6]) -> u32
     ensures { (w.new ≡ noted (refusal_number refusal) w.old) × (result ≡ 2) }
 {

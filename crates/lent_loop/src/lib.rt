@@ -15,7 +15,7 @@ use image_puts::note;
 use lent_places::finish;
 use panoc_core::panoc_cache::{Outcome, Stepped};
 
-// The loop goes on from what the inner solve gave, o.
+// The loop goes on from what the inner solve gave, o. The result is the kind that the call for C returns.
 fn go_on<'a>(
     o: Outcome,
     run: LoopLent<'a>,

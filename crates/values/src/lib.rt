@@ -8,7 +8,7 @@ pub mod psi_calls;
 use panoc_core::outcome::{Outcome, Refusal};
 use panoc_core::panoc_cache::Reply;
 
-// The number of the refusal that the last of so many calls gave, 0 where it gave none; 1 where there are no calls.
+// The number of the refusal that the last of so many calls gave, 0 where it gave none; 1 where there are no calls. A number, since C reads it.
 pub fn last_number<F: FnMut() -> Result<(), Refusal>>(turns: usize, mut call: F) -> u32
     requires { F.IsAlwaysCallable call }
 {

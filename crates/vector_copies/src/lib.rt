@@ -1,6 +1,5 @@
 // Vectors copied, into an array of 64 and out of one; zeros, and infinity.
 // An array with a count, as C lends it: with slices, tried and as fast, each caller owes bounds, and that a slice holds the first places.
-// Each copy is std's copy_from_slice, in a function that says what comes of it at the first places: else each caller would cite that law.
 #![tactic(auto)]
 
 ghost use Rattle.std.specs.Prelude.{◌≡◌, false, ◌≤◌, length, replicate};
@@ -8,7 +7,7 @@ ghost use Rattle.std.specs.Float.{inf};
 ghost use Rattle.ieee.specs.Numbers.{null};
 ghost use Rattle.matrix_operations.specs.Firsts.{firsts};
 
-// r = a
+// r = a, by std's copy: what it gives is said of the first places here, once for all callers.
 #[tactic(auto, using(matrix_operations::specs::Laws::copied))]
 pub fn copy_into(a: &[f64; 64], r: &mut [f64; 64], n: usize)
     requires { n ≤ 64 }
@@ -17,7 +16,7 @@ pub fn copy_into(a: &[f64; 64], r: &mut [f64; 64], n: usize)
     r[..n].copy_from_slice(&a[..n]);
 }
 
-// The numbers of a slice of at most 64, into the first places of an array.
+// The numbers of a slice of at most 64, into the first places of an array, by std's copy: as copy_into.
 #[tactic(auto, using(matrix_operations::specs::Laws::copied_in))]
 pub fn take_into(v: &[f64], r: &mut [f64; 64])
     requires { length v.now ≤ 64 }
@@ -26,7 +25,7 @@ pub fn take_into(v: &[f64], r: &mut [f64; 64])
     r[..v.len()].copy_from_slice(v);
 }
 
-// The first places of an array, into a slice of at most 64.
+// The first places of an array, into a slice of at most 64, by std's copy: as copy_into.
 #[tactic(auto, using(matrix_operations::specs::Laws::firsts_take))]
 pub fn give(a: &[f64; 64], u: &mut [f64])
     requires { length u.old ≤ 64 }
