@@ -1,5 +1,6 @@
 // A run that lies in lent arrays, as records of references: its small part as numbers, and its vectors. A call for C puts them together,
-// a handler takes them whole and says which of them it changes.
+// a handler takes them whole and says which of them it changes. That a run is sound, and that an answer has its places, are clauses of each
+// handler and no invariant: C lends any numbers, and what a run waits for is tested once, at the call.
 
 // The small part, laid out as specs/Image.antt has it.
 #[derive(Drop)]

@@ -1,4 +1,5 @@
 // A first candidate of the line search, in one loop with the sums that are needed there.
+// The vectors of the formula one by one, lent to be read or to be written: of a record of the run's vectors a clause would have to say which stay.
 #![tactic(auto)]
 
 ghost use Rattle.std.specs.Prelude.{◌≡◌, ◌≤◌, length};

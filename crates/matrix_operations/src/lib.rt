@@ -1,5 +1,6 @@
 // Vectors of floats, the first n places of an array of 64 or a whole slice: filled place by place, their norms and tests. Sums run from place 0.
 // An array with a count, as C lends it: with slices, tried and as fast, each caller owes bounds, and that a slice holds the first places.
+// That n ≤ 64 is a clause: n comes as a number of C, and a type of such counts would be made of it at each call, by the same proof.
 #![tactic(auto)]
 
 ghost use Rattle.std.specs.Prelude.{◌≡◌, ◌≤◌, ◌<◌, ℕ, List, Float, length};

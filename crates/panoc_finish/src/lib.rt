@@ -33,7 +33,8 @@ pub fn finish<'a>(norm: f64, run: Lent<'a>, at: Vectors<'a>) -> Outcome
     ask(Phase::LastCost, Question::Cost, w)
 }
 
-// The two tests: the norm against the tolerance, and the AKKT residual against its own where one is set.
+// The two tests: the norm against the tolerance, and the AKKT residual against its own where one is set. The vectors that they read are lent
+// one by one: out of a record that is taken apart three can be lent to be read, the record itself cannot.
 pub fn exit_condition<'a>(
     norm: f64,
     run: LentRead<'a>,
