@@ -100,10 +100,6 @@ set_best x b = record { u = b.u; plus = b.plus; gradient = b.gradient; previous 
 abbrev pub six : List Float → List Float → List Float → List Float → List Float → List Float → Board → Board
 six u g p h r x b = record { u = u; plus = b.plus; gradient = g; previous = p; step = b.step; half = h; fpr = r; direction = b.direction; best = x }
 
--- the vectors of a move: u, candidate, gradient, gradient step, half step, residual and direction
-abbrev pub seven : List Float → List Float → List Float → List Float → List Float → List Float → List Float → Board → Board
-seven u w g t h r d b = record { u = u; plus = w; gradient = g; previous = b.previous; step = t; half = h; fpr = r; direction = d; best = b.best }
-
 -- all vectors
 abbrev pub nine : List Float → List Float → List Float → List Float → List Float → List Float → List Float → List Float → List Float → Board
 nine u w g p t h r d b = record { u = u; plus = w; gradient = g; previous = p; step = t; half = h; fpr = r; direction = d; best = b }

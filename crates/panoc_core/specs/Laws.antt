@@ -271,12 +271,6 @@ module _ (s : Solve) (b : Board) (ok : Sound s) (p f best : List Float) (x y : F
         (asks_comes (with_search s.numbers.tau v (with_norms x y s)) (scored_board best) P.HalfCost _ _ _ r ok e
         (ap (λ (k : Float → M.Solve). ask (M.Question.cost (firsts s.set.n b.half)) Kind.number k) (ap (λ (w : Float). half_cost_at (set_of s) (end_of s) (next_at s) w st) v≡ ∙ half_cost_at_lem (set_of s) (end_of s) (next_at s) st))))
 
-    pub step_ends : (w : List Float) → t ≡ true
-        → ((c : Board) → Comes s.set (I.finish binary64 (set_of s) (end_of s) (iterate_at (with_norms x y s) (set_u b.u (set_half b.half (set_best best c))))) r (set_u b.u (set_half b.half (set_best w c))))
-        → Comes s.set (I.step binary64 (set_of s) (end_of s) (next_at s) (iterate_at s b)) r (scored_board w)
-    unfolding I.step I.tested
-    step_ends w yes' c = score_comes _ _ _ _ _ _ (rw (step_enters, sym (tv (scored_board best)) ∙ yes') (c (scored_board best)))
-
 -- ---- between steps
 
 -- the next step, without TIME and with it
@@ -544,14 +538,6 @@ module _ (s : Solve) (b : Board) (ok : Sound s) (r : Step) where
     value_is : x ≡ I.envelope binary64 (S.with_half v (iterate_at s b))
     value_is = xv ∙ ap (λ (z : List Float). I.envelope binary64 (S.with_half z (iterate_at s b))) half_is
 
-    pub tried_again : (w : List Float) → lt s.numbers.rhs_ls x ≡ true
-        → ((c : Board) → Comes s.set (retry_of (run_of s (set_u b.u (set_fpr b.fpr (set_direction b.direction c)))) (firsts s.set.n b.plus) (state_at s (set_u b.u (set_fpr b.fpr (set_direction b.direction c))))) r (set_u b.u (set_plus w (set_fpr b.fpr (set_direction b.direction c)))))
-        → Takes s b Vector v r (set_plus w (set_half h b))
-    unfolding resume I.tried_project
-    tried_again w q c =
-        takes_vector s b (set_plus w (set_half h b)) r ok P.TriedProject ph _ _ _ v refl
-        (rw (← value_is, q) (subst (λ (z : List Float). Comes s.set (retry_of (run_of s b) (firsts s.set.n b.plus) (record { at = S.with_half z (iterate_at s b); residual = firsts s.set.n b.fpr; norm = s.numbers.norm_gamma_fpr })) r (set_plus w (set_half h b))) half_is (c (set_half h b))))
-
     module _ (u p f w : List Float)
         (c : (d : Board) → Comes s.set (I.onward binary64 (set_of s) (end_of s) (next_at s) (S.with_u (firsts s.set.n b.plus) (iterate_at s (six b.u b.gradient b.previous h b.fpr b.best d)))) r (six u b.gradient p h f w d)) where
       abbrev b' : Board
@@ -560,17 +546,6 @@ module _ (s : Solve) (b : Board) (ok : Sound s) (r : Step) where
       onward_is : Comes s.set (I.onward binary64 (set_of s) (end_of s) (next_at s) (S.with_u (firsts s.set.n b.plus) (S.with_half v (iterate_at s b)))) r b'
       onward_is =
           subst (λ (z : List Float). Comes s.set (I.onward binary64 (set_of s) (end_of s) (next_at s) (S.with_u (firsts s.set.n b.plus) (S.with_half z (iterate_at s b)))) r b') half_is (c b)
-
-      pub tried_taken : lt s.numbers.rhs_ls x ≡ false → Takes s b Vector v r b'
-      unfolding resume I.tried_project
-      tried_taken q = takes_vector s b b' r ok P.TriedProject ph _ _ _ v refl (rw (← value_is, q) onward_is)
-
-      pub tried_last : lt s.numbers.rhs_ls x ≡ true → s.rounds ≡ 0 → Takes s b Vector v r b'
-      unfolding resume I.tried_project I.retry
-      tried_last q z =
-          takes_vector s b b' r ok P.TriedProject ph _ _ _ v refl
-          (rw (← value_is, q)
-          (subst (λ (m : ℕ). Comes s.set (I.retry binary64 (set_of s) m (end_of s) (next_at s) s.numbers.tau s.numbers.rhs_ls (firsts s.set.n b.direction) (firsts s.set.n b.plus) (S.onto (S.with_half v (iterate_at s b)) (state_at s b))) r b') (sym z) onward_is))
 
 -- ---- the formulas, at the code's literals
 pub gamma_is : (l m : Float) → m ≡ larger l (of_bits binary64 4457293557087583675) → div binary64 (of_bits binary64 4606732058837280358) m ≡ I.gamma_of binary64 l
@@ -591,9 +566,6 @@ ceiling_is c g x z a av = λ st cv gv xv zv. rw (cv, gv, xv, zv, av, lipschitz_u
 
 pub exceeds_is : (x c l : Float) → lt x c ≡ true → lt l (of_bits binary64 4741671816366391296) ≡ (lt x c && lt l (max_lipschitz_constant binary64))
 exceeds_is x c l q = rw (q, max_lipschitz_constant_bits)
-
-pub exceeds_not : (x c l : Float) → lt x c ≡ false → false ≡ (lt x c && lt l (max_lipschitz_constant binary64))
-exceeds_not x c l q = rw q
 
 pub envelope_is : (c g q d : Float)
     → Envelope c g q d (add binary64 (sub binary64 c (mul binary64 (mul binary64 (of_bits binary64 4602678819172646912) g) q)) (div binary64 (mul binary64 (of_bits binary64 4602678819172646912) d) g))
@@ -631,36 +603,6 @@ keep_less n w b h x y q e = sym (ap (λ (t : Bool). cond t (record { point = fir
 pub keep_not : (n : ℕ) (b h : List Float) (x y : Float) → lt x y ≡ false → best_at n b y ≡ keep (best_at n b y) (firsts n h) x
 unfolding keep
 keep_not n b h x y q = sym (ap (λ (t : Bool). cond t (record { point = firsts n h; norm = x }) (best_at n b y)) q)
-
--- the first candidate, with the code's 1
-pub search_asks_at : (s : Solve) (b : Board) → Sound s → (r : Step) (v d w : List Float) (x z τ : Float) → τ ≡ one binary64 → length v ≡ s.set.n → firsts (length v) d ≡ v
-    → x ≡ I.envelope binary64 (iterate_at s b) → z ≡ sub binary64 x (mul binary64 (mul binary64 s.numbers.sigma s.numbers.norm_gamma_fpr) s.numbers.norm_gamma_fpr)
-    → firsts s.set.n w ≡ less_times binary64 τ (less_times binary64 (sub binary64 (one binary64) τ) (firsts s.set.n b.u) (firsts s.set.n b.fpr)) (firsts s.set.n d)
-    → r ≡ stepped (O.Asked Q.Cost) P.TriedCost (with_rounds 10 s.forget (with_search τ z s))
-    → Comes s.set (I.search binary64 (set_of s) (end_of s) (next_at s) (state_at s b) v) r (set_plus w (set_direction d b))
-search_asks_at s b ok r v d w x z τ τv l dv xv zv wv e =
-    search_asks s b ok r v d w x z l dv xv zv
-    (subst (λ (y : Float). firsts s.set.n w ≡ less_times binary64 y (less_times binary64 (sub binary64 (one binary64) y) (firsts s.set.n b.u) (firsts s.set.n b.fpr)) (firsts s.set.n d)) τv wv)
-    (subst (λ (y : Float). r ≡ stepped (O.Asked Q.Cost) P.TriedCost (with_rounds 10 s.forget (with_search y z s))) τv e)
-
--- a cost and a gradient that are both finite
-pub both_yes : (c : Float) (v : List Float) (r : Bool) → finite c ≡ true → r ≡ all_finite v → r ≡ (finite c && all_finite v)
-both_yes c v r q e = e ∙ sym (ap (λ (t : Bool). t && all_finite v) q)
-
-pub both_no : (c : Float) (v : List Float) → finite c ≡ false → false ≡ (finite c && all_finite v)
-both_no c v q = sym (ap (λ (t : Bool). t && all_finite v) q)
-
--- ---- what a call gives of a small part that equals another
-pub step_same : (t t' : Solve) (b b' : Board) (r : Step) → t ≡ t' → Comes t.set (I.step binary64 (set_of t) (end_of t) (next_at t) (iterate_at t b)) r b'
-    → Comes t'.set (I.step binary64 (set_of t') (end_of t') (next_at t') (iterate_at t' b)) r b'
-step_same t t' b b' r e c = subst (λ (z : Solve). Comes z.set (I.step binary64 (set_of z) (end_of z) (next_at z) (iterate_at z b)) r b') e c
-
-pub finish_same : (t t' : Solve) (b b' : Board) (r : Step) → t ≡ t' → Comes t.set (I.finish binary64 (set_of t) (end_of t) (iterate_at t b)) r b'
-    → Comes t'.set (I.finish binary64 (set_of t') (end_of t') (iterate_at t' b)) r b'
-finish_same t t' b b' r e c = subst (λ (z : Solve). Comes z.set (I.finish binary64 (set_of z) (end_of z) (iterate_at z b)) r b') e c
-
-pub sound_same : (t t' : Solve) → t ≡ t' → Sound t' → Sound t
-sound_same t t' e ok = subst (λ (z : Solve). Sound z) (sym e) ok
 
 -- the candidate that is taken
 pub taken_goes : (s : Solve) (b b' : Board) (r : Step) (u w : List Float) → firsts s.set.n u ≡ firsts s.set.n w
