@@ -151,9 +151,6 @@ module _ (s : DPsiState) (b : DPsiBoard) (ok : Sound s.sizes) (r : DPsiStep) whe
       (subst (λ (x : List Float). DPsiComes s.sizes (stop (handed x)) r (d_psi_gw g w b)) g≡ (ends s (d_psi_gw g w b) r e))
 
 -- ---- one answer
-pub took_vector : (s : DPsiState) (b b' : DPsiBoard) (a : Reply) (v : List Float) (r : DPsiStep) → a ≡ Vector → DPsiTakes s b Vector v r b' → DPsiTakes s b a v r b'
-took_vector s b b' a v r e w = subst (λ (z : Reply). DPsiTakes s b z v r b') (sym e) w
-
 pub took_failure : (s : DPsiState) (b : DPsiBoard) (a : Reply) (v : List Float) (r : DPsiStep) (c : ℕ) → a ≡ Failure c → answer_refusal (d_psi_kind s) (reply_of a) (length v) true ≡ 0
     → r ≡ stepped (O.Failed c) P.Over s → DPsiTakes s b a v r b
 unfolding lent_after lent_at given

@@ -1,10 +1,6 @@
-use Rattle.std.proofs.Common.{sym}
 use Rattle.psi.proofs.PsiLaws.{answer_goes, answer_refused}
 use Rattle.factory.specs.FactoryLent.{psi_held}
 use Rattle.psi.proofs.answer_in_place.Goals as goal
-
-pub step-requires : goal.step-requires
-step-requires c = rw (← c.wants.ensures) (sym c.in-None.ensures)
 
 pub returns-in-None : goal.returns-in-None
 returns-in-None c = λ b. answer_goes c.args.s (psi_held c.args.at b) _ c.args.a c.args.v.now _ _ c.wants.ensures c.in-None.ensures (c.step.ensures b)

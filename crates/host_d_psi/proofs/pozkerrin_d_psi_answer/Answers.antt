@@ -1,7 +1,0 @@
-use Rattle.panoc_core.specs.Told.{told}
-use Rattle.psi_image.specs.PsiStored.{d_psi_stored}
-use Rattle.host_d_psi.proofs.Laws.{d_psi_answers}
-use Rattle.host_d_psi.proofs.pozkerrin_d_psi_answer.Goals as goal
-
-pub returns : goal.returns
-returns c = λ b. d_psi_answers _ _ _ _ _ _ _ _ _ _ _ c.d_psi_of-s.ensures c.reply_of-a.ensures (d_psi_stored (told c.answer_in_place-r.result) c.tell_d_psi.result c.keep_d_psi.new.w c.tell_d_psi.new.w c.keep_d_psi.new.k c.keep_d_psi.new.f c.keep_d_psi.ensures c.tell_d_psi.ensures) (c.answer_in_place-r.ensures b)
