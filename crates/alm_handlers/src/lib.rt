@@ -1,5 +1,5 @@
 // The handlers of the loop's own questions.
-#![tactic(auto)]
+#![tactic(auto, using(alm_core::specs::Laws::sized_n1, alm_core::specs::Laws::sized_n2))]
 
 ghost use Rattle.std.specs.Prelude.{◌≡◌, ◌∷◌, true, [], length};
 ghost use Rattle.model.specs.Loop as L;

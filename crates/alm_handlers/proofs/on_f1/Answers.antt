@@ -1,13 +1,7 @@
 use Rattle.std.proofs.Common.{arith}
-use Rattle.alm_core.specs.Laws.{sized_n1, f1_goes}
+use Rattle.alm_core.specs.Laws.{f1_goes}
 use Rattle.alm_core.specs.LentLoop.{own_held}
 use Rattle.alm_handlers.proofs.on_f1.Goals as goal
-
-pub take_into-requires : goal.take_into-requires
-take_into-requires c = omega (arith, sized_n1 c.args.s c.requires.0.0, c.requires.2)
-
-pub plus_over_into-requires : goal.plus_over_into-requires
-plus_over_into-requires c = omega (arith, sized_n1 c.args.s c.requires.0.0)
 
 pub returns-clause-goes : goal.returns-clause-goes
 returns-clause-goes c = λ b. f1_goes c.args.s (own_held c.args.at b) _ c.requires.0 _ _ _ c.requires.1 c.requires.2 c.take_into.ensures c.plus_over_into.ensures c.to.ensures

@@ -1,13 +1,7 @@
 use Rattle.std.proofs.Common.{arith}
-use Rattle.alm_core.specs.Laws.{sized_n2, norm_ready, f2_every}
+use Rattle.alm_core.specs.Laws.{norm_ready, f2_every}
 use Rattle.alm_core.specs.LentLoop.{own_held}
 use Rattle.alm_handlers.proofs.on_f2.Goals as goal
-
-pub take_into-requires : goal.take_into-requires
-take_into-requires c = omega (arith, sized_n2 c.args.s c.requires.0.0, c.requires.2)
-
-pub norm2-requires : goal.norm2-requires
-norm2-requires c = omega (arith, sized_n2 c.args.s c.requires.0.0)
 
 pub weigh-r-requires : goal.weigh-r-requires
 weigh-r-requires c = norm_ready c.args.s _ c.requires.0

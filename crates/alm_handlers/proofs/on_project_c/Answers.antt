@@ -1,16 +1,7 @@
 use Rattle.std.proofs.Common.{arith}
-use Rattle.alm_core.specs.Laws.{sized_n1, delta_ready, c_every}
+use Rattle.alm_core.specs.Laws.{delta_ready, c_every}
 use Rattle.alm_core.specs.LentLoop.{own_held}
 use Rattle.alm_handlers.proofs.on_project_c.Goals as goal
-
-pub take_into-requires : goal.take_into-requires
-take_into-requires c = omega (arith, sized_n1 c.args.s c.requires.0.0, c.requires.2)
-
-pub multipliers_into-requires : goal.multipliers_into-requires
-multipliers_into-requires c = omega (arith, sized_n1 c.args.s c.requires.0.0)
-
-pub norm2_diff-requires : goal.norm2_diff-requires
-norm2_diff-requires c = omega (arith, sized_n1 c.args.s c.requires.0.0)
 
 pub ask_f2-r-requires : goal.ask_f2-r-requires
 ask_f2-r-requires c = delta_ready c.args.s _ c.requires.0

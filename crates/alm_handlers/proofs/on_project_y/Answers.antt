@@ -1,10 +1,7 @@
 use Rattle.std.proofs.Common.{arith}
-use Rattle.alm_core.specs.Laws.{sized_n1, y_goes}
+use Rattle.alm_core.specs.Laws.{y_goes}
 use Rattle.alm_core.specs.Board.{set_y}
 use Rattle.alm_handlers.proofs.on_project_y.Goals as goal
-
-pub take_into-requires : goal.take_into-requires
-take_into-requires c = omega (arith, sized_n1 c.args.s c.requires.0.0, c.requires.2)
 
 pub inner_solve-requires : goal.inner_solve-requires
 inner_solve-requires c = c.requires.0

@@ -1,16 +1,10 @@
 use Rattle.std.proofs.Common.{arith}
-use Rattle.alm_core.specs.Laws.{sized_n, sized_n1, weigh_ends, weigh_goes, counted_closing, closing_same, sized_same}
+use Rattle.alm_core.specs.Laws.{weigh_ends, weigh_goes, counted_closing, closing_same, sized_same}
 use Rattle.alm_core.specs.LentLoop.{outer_held}
 use Rattle.alm_weigh.proofs.weigh.Goals as goal
 
-pub copy_into-requires : goal.copy_into-requires
-copy_into-requires c = sized_n c.args.s c.requires.0
-
 pub conclude-requires : goal.conclude-requires
 conclude-requires c = sized_same _ _ c.counted-t.ensures c.requires.0
-
-pub copy_into-requires-2 : goal.copy_into-requires-2
-copy_into-requires-2 c = omega (arith, sized_n1 c.args.s c.requires.0)
 
 pub next_iteration-requires : goal.next_iteration-requires
 next_iteration-requires c = closing_same _ _ c.counted-t-2.ensures (counted_closing c.args.s _ _ c.requires)
