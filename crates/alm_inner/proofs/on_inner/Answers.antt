@@ -6,9 +6,6 @@ use Rattle.panoc_core.specs.Told.{numbered, told}
 use Rattle.panoc_core.specs.Values.{Says}
 use Rattle.alm_inner.proofs.on_inner.Goals as goal
 
-pub on_solved-requires : goal.on_solved-requires
-on_solved-requires c = (c.requires.0, c.requires.1, subst (λ (z : Says). EndsWithin z) (ap numbered c.in-Ended.is) c.requires.2)
-
 pub returns-in-Asked : goal.returns-in-Asked
 returns-in-Asked c = λ b. carries_asked c.args.s (outer_held c.args.at b) (told c.args.r) _ c.requires.0 c.requires.1 _ (ap numbered c.in-Asked.is) c.to.ensures
 
