@@ -11,10 +11,10 @@ use lib.Ieee.{Float, binary64}
 use lib.ListN.{length}
 use Rattle.matrix_operations.specs.Firsts.{firsts}
 use Rattle.model.specs.Vectors.{minus, plus_times, plus_over}
-use Rattle.model.specs.Process.{Kind, Answer, handed, refused, failed, ask, stop}
+use Rattle.model.specs.Process.{Kind, Answer, handed, refused, ask, stop}
 use Rattle.model.specs.Process as M
 use Rattle.model.specs.Psi as S
-use Rattle.model.specs.Refusals.{answer_refusal, wanted, accept, replied, go_on, as_vector, remains, lent_after, lent_at}
+use Rattle.model.specs.Refusals.{answer_refusal, wanted, lent_after, lent_at}
 use Rattle.model.specs.Refusals as R
 use Rattle.panoc_core.specs.Values.{reply_of}
 use Rattle.panoc_core.specs.declared.panoc_cache.Reply.{Reply}
