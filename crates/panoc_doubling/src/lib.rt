@@ -1,5 +1,5 @@
 // The answers at the half step and while doubling.
-#![tactic(auto)]
+#![tactic(auto, using(panoc_core::specs::Laws::sound_n))]
 
 ghost use Rattle.std.specs.Prelude.{◌≡◌, ◌∷◌, [], length};
 ghost use Rattle.panoc_core.specs.Board.{Board, Sound, Takes};

@@ -1,5 +1,5 @@
 // The start of a solve: the first cost, the gradient at u, and the estimate of the Lipschitz constant, which leaves u shifted.
-#![tactic(auto)]
+#![tactic(auto, using(panoc_core::specs::Laws::sound_n))]
 
 ghost use Rattle.std.specs.Prelude.{◌≡◌, ◌∷◌, [], length};
 ghost use Rattle.panoc_core.specs.Board.{Board, Sound, Takes};

@@ -1,5 +1,5 @@
 // The tests of a step, and what follows the last.
-#![tactic(auto)]
+#![tactic(auto, using(panoc_core::specs::Laws::sound_n))]
 
 ghost use Rattle.std.specs.Prelude.{◌≡◌, ◌≤◌, ◌∷◌, [], Float, get_or};
 ghost use Rattle.std.specs.Float.{binary64};

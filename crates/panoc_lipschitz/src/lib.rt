@@ -1,5 +1,5 @@
 // The doubling of L, and the question for a DIRECTION.
-#![tactic(auto)]
+#![tactic(auto, using(panoc_core::specs::Laws::sound_n))]
 
 ghost use Rattle.panoc_core.specs.Board.{Board, Sound};
 ghost use Rattle.panoc_lipschitz.specs.Doubling.{AsksDirection, Doubles};

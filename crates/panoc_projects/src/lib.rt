@@ -1,5 +1,5 @@
 // PROJECT's answers after a move: the iterate or the candidate is taken, or another candidate is tried.
-#![tactic(auto)]
+#![tactic(auto, using(panoc_core::specs::Laws::sound_n))]
 
 ghost use Rattle.std.specs.Prelude.{◌≡◌, ◌∷◌, [], length};
 ghost use Rattle.panoc_core.specs.Board.{Sound, Takes};

@@ -1,5 +1,5 @@
 // The moves of the later steps: candidates along DIRECTION's answer.
-#![tactic(auto)]
+#![tactic(auto, using(panoc_core::specs::Laws::sound_n))]
 
 ghost use Rattle.std.specs.Prelude.{◌≡◌, ◌∷◌, ◌&&◌, not, [], eqb, length};
 ghost use Rattle.std.specs.Float.Ieee.{lt};

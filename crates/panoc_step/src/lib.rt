@@ -1,5 +1,5 @@
 // A step with its tests.
-#![tactic(auto)]
+#![tactic(auto, using(panoc_core::specs::Laws::sound_n))]
 
 ghost use Rattle.std.specs.Prelude.{◌∷◌, []};
 ghost use Rattle.panoc_core.specs.Board.{Sound, Steps};

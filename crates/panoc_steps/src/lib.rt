@@ -1,5 +1,5 @@
 // The solve between its steps.
-#![tactic(auto)]
+#![tactic(auto, using(panoc_core::specs::Laws::sound_n))]
 
 ghost use Rattle.std.specs.Prelude.{◌∷◌, []};
 ghost use Rattle.panoc_core.specs.Board.{Sound, Times, Onward};

@@ -1,11 +1,8 @@
 use Rattle.matrix_operations.specs.Laws.{norm_root}
 use Rattle.std.specs.Float.Ieee.{binary64}
-use Rattle.panoc_core.specs.Laws.{sound_n, taken_goes}
+use Rattle.panoc_core.specs.Laws.{taken_goes}
 use Rattle.image.specs.LentRun.{small, held}
 use Rattle.panoc_candidate.proofs.take_candidate.Goals as goal
-
-pub adopt_into-requires : goal.adopt_into-requires
-adopt_into-requires c = sound_n (small c.args.run) c.requires.0
 
 pub onward-requires : goal.onward-requires
 onward-requires c = (c.requires.0, rw c.adopt_into.ensures.point (c.adopt_into.ensures.residual, norm_root binary64 _ _ _ c.requires.1.0 c.sqrt-norm.ensures, c.requires.1.1))

@@ -1,14 +1,11 @@
 use Rattle.std.proofs.Common.{refl, sym, ◌∙◌}
 use Rattle.panoc_core.specs.Rest.{sound}
 use Rattle.image.specs.LentRun.{small, costs_held}
-use Rattle.panoc_core.specs.Laws.{sound_n, doubled_cost_goes, doubled_cost_stops}
+use Rattle.panoc_core.specs.Laws.{doubled_cost_goes, doubled_cost_stops}
 use Rattle.panoc_core.specs.Board.{five}
 use Rattle.image.specs.Stored.{step_as}
 use Rattle.panoc_doubling.specs.Laws.{doubled_doubles}
 use Rattle.panoc_doubling.proofs.on_doubled_cost.Goals as goal
-
-pub residual_into-sums-requires : goal.residual_into-sums-requires
-residual_into-sums-requires c = sound_n (small c.args.run) c.requires.0
 
 pub update_lipschitz_constant-requires : goal.update_lipschitz_constant-requires
 unfolding sound

@@ -1,11 +1,8 @@
 use Rattle.std.proofs.Common.{arith, refl}
 use Rattle.image.specs.LentRun.{small, held}
-use Rattle.panoc_core.specs.Laws.{sound_n, doubled_project_goes}
+use Rattle.panoc_core.specs.Laws.{doubled_project_goes}
 use Rattle.image.specs.Stored.{step_as}
 use Rattle.panoc_doubling.proofs.on_doubled_project.Goals as goal
-
-pub take_into-requires : goal.take_into-requires
-take_into-requires c = omega (arith, sound_n (small c.args.run) c.requires.0, c.requires.2)
 
 pub returns-clause-goes : goal.returns-clause-goes
 returns-clause-goes c = doubled_project_goes (small c.args.run) (held c.args.at) c.requires.0 _ _ _ c.requires.1 c.requires.2 c.take_into.ensures (step_as _ _ _ _ c.args.run.k.now c.args.run.k.now c.args.run.f.now c.args.run.f.now c.ask.ensures.outcome c.ask.ensures.moved refl refl)

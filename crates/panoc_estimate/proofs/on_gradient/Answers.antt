@@ -1,13 +1,7 @@
-use Rattle.panoc_core.specs.Laws.{sound_n, gradient_goes}
+use Rattle.panoc_core.specs.Laws.{gradient_goes}
 use Rattle.image.specs.LentRun.{small, held}
 use Rattle.std.proofs.Common.{arith, refl}
 use Rattle.panoc_estimate.proofs.on_gradient.Goals as goal
-
-pub take_into-requires : goal.take_into-requires
-take_into-requires c = omega (arith, sound_n (small c.args.run) c.requires.0, c.requires.2)
-
-pub shift_into-norm_h-requires : goal.shift_into-norm_h-requires
-shift_into-norm_h-requires c = sound_n (small c.args.run) c.requires.0
 
 pub returns-clause-goes : goal.returns-clause-goes
 returns-clause-goes c = rw (c.ask.ensures.outcome, c.ask.ensures.moved, c.put_norm_h.ensures) (gradient_goes (small c.args.run) (held c.args.at) c.requires.0 _ _ _ _ _ c.requires.1 c.requires.2 c.take_into.ensures c.shift_into-norm_h.ensures.left c.shift_into-norm_h.ensures.size refl)

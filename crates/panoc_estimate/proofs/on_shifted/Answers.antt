@@ -1,19 +1,7 @@
-use Rattle.panoc_core.specs.Laws.{sound_n, shifted_goes, shifted_stops}
+use Rattle.panoc_core.specs.Laws.{shifted_goes, shifted_stops}
 use Rattle.image.specs.LentRun.{small, held}
 use Rattle.std.proofs.Common.{arith, refl, sym, ◌∙◌}
 use Rattle.panoc_estimate.proofs.on_shifted.Goals as goal
-
-pub both_finite-requires : goal.both_finite-requires
-both_finite-requires c = sound_n (small c.args.run) c.requires.0
-
-pub take_into-requires : goal.take_into-requires
-take_into-requires c = omega (arith, sound_n (small c.args.run) c.requires.0, c.requires.2)
-
-pub norm2_diff-change-requires : goal.norm2_diff-change-requires
-norm2_diff-change-requires c = sound_n (small c.args.run) c.requires.0
-
-pub less_times_into-requires : goal.less_times_into-requires
-less_times_into-requires c = sound_n (small c.args.run) c.requires.0
 
 pub returns-then-not-both_finite-clause-goes : goal.returns-then-not-both_finite-clause-goes
 returns-then-not-both_finite-clause-goes c =

@@ -1,13 +1,7 @@
-use Rattle.panoc_core.specs.Laws.{sound_n, finish_asks, finish_stops}
+use Rattle.panoc_core.specs.Laws.{finish_asks, finish_stops}
 use Rattle.image.specs.LentRun.{small, held}
 use Rattle.std.proofs.Common.{refl, sym, ◌∙◌}
 use Rattle.panoc_finish.proofs.finish.Goals as goal
-
-pub cache_best_half_step-least-requires : goal.cache_best_half_step-least-requires
-cache_best_half_step-least-requires c = sound_n (small c.args.run) c.requires.0
-
-pub is_finite-requires : goal.is_finite-requires
-is_finite-requires c = sound_n (small c.args.run) c.requires.0
 
 pub returns-then-not-is_finite-clause-goes : goal.returns-then-not-is_finite-clause-goes
 returns-then-not-is_finite-clause-goes c =

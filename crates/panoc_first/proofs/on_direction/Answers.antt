@@ -1,11 +1,8 @@
 use Rattle.std.proofs.Common.{refl}
 use Rattle.image.specs.LentRun.{small, held}
-use Rattle.panoc_core.specs.Laws.{sound_n, direction_first, direction_later}
+use Rattle.panoc_core.specs.Laws.{direction_first, direction_later}
 use Rattle.image.specs.Stored.{step_as}
 use Rattle.panoc_first.proofs.on_direction.Goals as goal
-
-pub copy_into-requires : goal.copy_into-requires
-copy_into-requires c = sound_n (small c.args.run) c.requires.0
 
 pub linesearch-requires : goal.linesearch-requires
 linesearch-requires c = (c.requires.0, c.requires.2)

@@ -1,14 +1,8 @@
 use Rattle.panoc_opening.specs.Laws.{project_lent}
-use Rattle.panoc_core.specs.Laws.{sound_n, project_sound}
+use Rattle.panoc_core.specs.Laws.{project_sound}
 use Rattle.image.specs.LentRun.{small, held}
 use Rattle.std.proofs.Common.{arith}
 use Rattle.panoc_opening.proofs.on_project.Goals as goal
-
-pub take_into-requires : goal.take_into-requires
-take_into-requires c = omega (arith, sound_n (small c.args.run) c.requires.0, c.requires.2)
-
-pub residual_into-sums-requires : goal.residual_into-sums-requires
-residual_into-sums-requires c = sound_n (small c.args.run) c.requires.0
 
 pub step-requires : goal.step-requires
 step-requires c = rw (c.put_status.ensures, c.put_steps.ensures, c.put_norms.ensures) (project_sound (small c.args.run) _ c.requires.0, (c.residual_into-sums.ensures.left, c.residual_into-sums.ensures.size, c.residual_into-sums.ensures.product))

@@ -1,11 +1,7 @@
 use Rattle.panoc_projects.specs.Laws.{envelope_of, size_of, product_of, worse_less, worse_rounds, tried_worse, tried_takes}
-use Rattle.panoc_core.specs.Laws.{sound_n}
 use Rattle.image.specs.LentRun.{small, held}
 use Rattle.std.proofs.Common.{arith}
 use Rattle.panoc_projects.proofs.on_tried_project.Goals as goal
-
-pub candidate_sums_into-sums-requires : goal.candidate_sums_into-sums-requires
-candidate_sums_into-sums-requires c = omega (arith, sound_n (small c.args.run) c.requires.0, c.requires.2)
 
 pub try_again-requires : goal.try_again-requires
 try_again-requires c = (c.requires.0, worse_rounds _ _ _ _ c.worse-again.ensures c.if-again.true)

@@ -1,12 +1,9 @@
 use Rattle.std.proofs.Common.{arith, refl}
 use Rattle.image.specs.LentRun.{small, held}
-use Rattle.panoc_core.specs.Laws.{sound_n, search_asks}
+use Rattle.panoc_core.specs.Laws.{search_asks}
 use Rattle.image.specs.Stored.{step_as}
 use Rattle.panoc_search.specs.Laws.{line_of, search_one, envelope_at}
 use Rattle.panoc_search.proofs.linesearch.Goals as goal
-
-pub line_into-sums-requires : goal.line_into-sums-requires
-line_into-sums-requires c = omega (arith, sound_n (small c.args.run) c.requires.0, c.requires.1)
 
 pub returns-clause-goes : goal.returns-clause-goes
 returns-clause-goes c = search_asks (small c.args.run) (held c.args.at) c.requires.0 _ _ _ _ _ _ c.requires.1 c.line_into-sums.ensures.direction (envelope_at c.args.run.w.now c.args.run.k.now c.args.run.f.now (held c.args.at) c.args.v.now _ _ _ c.requires.1 c.envelope-value.ensures c.line_into-sums.ensures.gradient c.line_into-sums.ensures.distance) refl (line_of _ _ c.requires.1 _ _ _ _ c.line_into-sums.ensures.direction c.line_into-sums.ensures.candidate) (step_as _ _ _ _ _ _ _ _ c.ask.ensures.outcome c.ask.ensures.moved c.put_rounds.ensures (search_one c.args.run.f.now _ _ c.put_search.ensures))

@@ -3,12 +3,9 @@ use Rattle.std.specs.Float.Ieee.{Float, binary64, div, nan}
 use Rattle.std.proofs.Math.ListN.{get_or}
 use Rattle.model.proofs.Literals.{two_bits}
 use Rattle.image.specs.LentRun.{small, held}
-use Rattle.panoc_core.specs.Laws.{sound_n, again_asks}
+use Rattle.panoc_core.specs.Laws.{again_asks}
 use Rattle.image.specs.Stored.{step_as}
 use Rattle.panoc_search.proofs.try_again.Goals as goal
-
-pub candidate_into-requires : goal.candidate_into-requires
-candidate_into-requires c = sound_n (small c.args.run) c.requires.0
 
 pub returns-clause-goes : goal.returns-clause-goes
 returns-clause-goes c = again_asks (small c.args.run) (held c.args.at) c.requires.0 _ _ _ _ (omega (arith, c.requires.1)) (ap (λ (z : Float). div binary64 (get_or c.args.run.f.now 6 nan) z) two_bits) c.candidate_into.ensures (step_as _ _ _ _ _ _ _ _ c.ask.ensures.outcome c.ask.ensures.moved c.put_rounds.ensures c.put_search.ensures) _

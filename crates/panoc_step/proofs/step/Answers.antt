@@ -1,18 +1,9 @@
-use Rattle.panoc_core.specs.Laws.{sound_n, step_asks}
+use Rattle.panoc_core.specs.Laws.{step_asks}
 use Rattle.panoc_core.specs.Rest.{sound}
 use Rattle.image.specs.LentRun.{small, held}
 use Rattle.panoc_step.specs.Laws.{step_finishes}
 use Rattle.std.proofs.Common.{refl}
 use Rattle.panoc_step.proofs.step.Goals as goal
-
-pub cache_previous_gradient-requires : goal.cache_previous_gradient-requires
-cache_previous_gradient-requires c = sound_n (small c.args.run) c.requires.0
-
-pub cache_best_half_step-least-requires : goal.cache_best_half_step-least-requires
-cache_best_half_step-least-requires c = sound_n (small c.args.run) c.requires.0
-
-pub exit_condition-ends-requires : goal.exit_condition-ends-requires
-exit_condition-ends-requires c = sound_n (small c.args.run) c.requires.0
 
 pub finish-requires : goal.finish-requires
 unfolding sound

@@ -1,13 +1,10 @@
 use Rattle.std.proofs.Common.{◌∙◌}
 use Rattle.image.specs.Rounds.{status_round}
 use Rattle.panoc_core.specs.Board.{set_of}
-use Rattle.panoc_core.specs.Laws.{sound_n, timed_goes}
+use Rattle.panoc_core.specs.Laws.{timed_goes}
 use Rattle.panoc_core.specs.Rest.{sound}
 use Rattle.image.specs.LentRun.{small, held}
 use Rattle.panoc_steps.proofs.timed.Goals as goal
-
-pub residual_into-sums-requires : goal.residual_into-sums-requires
-residual_into-sums-requires c = sound_n (small c.args.run) c.requires
 
 pub step-requires : goal.step-requires
 unfolding sound
