@@ -8,6 +8,7 @@ pub use alm_in_place::answer_in_place;
 use panoc_core::panoc_cache::Reply;
 
 // An answer to the question of a run by value.
+// As panoc_optimizer::answer: each names the vectors of its own run, which is most of it.
 pub fn answer(mut run: AlmRun, a: Reply, v: &[f64], plan: &mut [f64], xi: &mut [f64]) -> AlmAnswered
     ensures { Answers run a v.now plan.old plan.new xi.old xi.new (answered result) }
 {

@@ -36,6 +36,7 @@ fn on_vector<'a>(s: Alm, v: &[f64], at: OwnVectors<'a>) -> AlmStepped
 }
 
 // An answer to a question of the loop itself.
+// One match over the kind of reply: each arm is another handler, so a table is no plainer.
 pub fn take_own<'a>(s: Alm, a: Reply, v: &[f64], at: OwnVectors<'a>) -> AlmStepped
     requires { (answer_refusal (wanted_of s) (reply_of a) (length v.now) true ≡ 0) × (s.phase ≡ P.Inner → ⊥) }
     ensures { (b : LoopBoard) → Takes s (own_held at.entry b) a v.now (told result) (own_left at.exit b) }

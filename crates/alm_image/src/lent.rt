@@ -58,6 +58,7 @@ pub fn settings_given(
 }
 
 // The settings that the lent numbers stand for. No impl of From, which would say by a ghost member what the clause says here.
+// Three of the six arrays are read: alm_of, the one caller, has the record whole.
 pub fn settings_of<'a>(run: LoopRead<'a>) -> AlmSettings
     ensures { result ≡ settings_in run.entry }
 {
@@ -209,7 +210,7 @@ pub fn keep_alm<'a>(s: Alm, run: LoopLent<'a>)
     keep_numbers(s.numbers, lf);
 }
 
-// The numbers of an end that an inner solve has not. Of the lent arrays these are two of six.
+// The numbers of an end that an inner solve has not. Two of six arrays: tell_alm has the record taken apart already.
 fn note_ends(
     outer: usize,
     delta_y: f64,

@@ -15,6 +15,7 @@ use panoc_core::refusals::refusal;
 use panoc_plan::hand_out;
 
 // An answer to the question of a run in place: the plan and the multipliers go into the lent slices.
+// As panoc_in_place::answer_in_place, whose vectors are others and which lends no xi: one for both would take the test and the hand-outs as closures.
 pub fn answer_in_place<'a>(
     s: Alm,
     a: Reply,

@@ -36,6 +36,7 @@ pub fn on_solved<'a>(s: Alm, r: Stepped, status: SolverStatus, at: OuterVectors<
 }
 
 // What the inner solve has come to is carried out.
+// One match over what the inner solve gave: each arm does another thing.
 pub fn on_inner<'a>(s: Alm, r: Stepped, at: OuterVectors<'a>) -> AlmStepped
     requires { (Ready s) × (r.state.set.n ≡ s.set.n) × (EndsWithin (numbered r.outcome)) }
     ensures { (b : LoopBoard) → Carries s (told r) (outer_held at.entry b) (told result) (outer_left at.exit b) }

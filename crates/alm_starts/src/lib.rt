@@ -96,6 +96,7 @@ pub fn start_in_place(
 }
 
 // A run by value that is begun at u and xi, or its refusal.
+// As panoc_starts::start: each names the vectors of its own run, which is most of it.
 pub fn start(set: AlmSettings, u: &[f64], xi: &[f64]) -> AlmAnswered
     ensures { Starts set u.now xi.now (answered result) }
 {

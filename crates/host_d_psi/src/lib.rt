@@ -13,6 +13,7 @@ use psi_image::d_psi::{d_psi_of, keep_d_psi, tell_d_psi};
 use psi_kinds::reply_of;
 
 // An answer to the question of a run; the result goes into the lent slice. A kind of none is answered as a no, which d_psi never takes.
+// host_c has a function of this name that calls this one: a crate is a library or a static library, not both.
 #[unsafe(no_mangle)]
 pub extern "C" fn pozkerrin_d_psi_answer(
     w: &mut [u32; 2],

@@ -12,6 +12,7 @@ use image::told::number_in;
 use psi_image::d_psi::d_psi_of;
 
 // The points of the question of a run; a product has a second: 0, or 6 where it has ended and 8 where a slice is not as long as its point.
+// host_c has a function of this name that calls this one: a crate is a library or a static library, not both.
 #[unsafe(no_mangle)]
 pub extern "C" fn pozkerrin_d_psi_points<'a>(
     w: &[u32; 2],

@@ -11,6 +11,7 @@ use factory::alm_factory::Sizes;
 use psi_image::d_psi::{keep_d_psi, tell_d_psi};
 
 // A run that is begun at the lent slices, or its refusal.
+// host_c has a function of this name that calls this one: a crate is a library or a static library, not both.
 #[unsafe(no_mangle)]
 pub extern "C" fn pozkerrin_d_psi_start(
     w: &mut [u32; 2],

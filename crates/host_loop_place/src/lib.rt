@@ -29,6 +29,7 @@ fn own_place_of(phase: AlmPhase) -> u32
 
 // Where the first point of the question of a run lies: the number of the vector that has it in its first places, for a question of the inner
 // solve by its numbers.
+// host_c has a function of this name that calls this one: a crate is a library or a static library, not both.
 #[unsafe(no_mangle)]
 pub extern "C" fn pozkerrin_loop_place(w: &[u32; 6], lw: &[u32; 4]) -> u32
     ensures { (k lk : List ℕ) (f lf : List Float) (b : LoopBoard) → Lies (alm_of w.now k f lw.now lk lf) b result }

@@ -17,6 +17,7 @@ use panoc_places::lent::PointVectors;
 use panoc_points::points_in_place;
 
 // The points of the question of a run: 0, or 6 where it has ended and 8 where a slice is not as long as its point.
+// host_c has a function of this name that calls this one: a crate is a library or a static library, not both.
 #[unsafe(no_mangle)]
 pub extern "C" fn pozkerrin_inner_points<'a>(
     w: &[u32; 6],

@@ -13,6 +13,7 @@ use psi_image::psi::{keep_psi, psi_of, tell_psi};
 use psi_kinds::reply_of;
 
 // An answer to the question of a run. A kind of none is answered as a no, which psi never takes: 6 where the run has ended, else 7.
+// host_c has a function of this name that calls this one: a crate is a library or a static library, not both.
 #[unsafe(no_mangle)]
 pub extern "C" fn pozkerrin_psi_answer(
     w: &mut [u32; 2],

@@ -12,6 +12,7 @@ use psi_image::psi::psi_of;
 use psi_points::points_in_place;
 
 // The point of the question of a run; no question has a second: 0, or 6 where it has ended and 8 where a slice is not as long.
+// host_c has a function of this name that calls this one: a crate is a library or a static library, not both.
 #[unsafe(no_mangle)]
 pub extern "C" fn pozkerrin_psi_points<'a>(
     w: &[u32; 2],

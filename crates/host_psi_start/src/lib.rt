@@ -11,6 +11,7 @@ use psi_image::psi::{keep_psi, tell_psi};
 use psi_starts::start_in_place;
 
 // A run that is begun at the lent slices, or its refusal.
+// host_c has a function of this name that calls this one: a crate is a library or a static library, not both.
 #[unsafe(no_mangle)]
 pub extern "C" fn pozkerrin_psi_start(
     w: &mut [u32; 2],

@@ -107,7 +107,7 @@ pub fn note(number: u32, w: &mut [u32; 6])
     w[TOLD] = number;
 }
 
-// The numbers of an end. Of the lent arrays these are two of three.
+// The numbers of an end. Two of the three lent arrays: who calls has the record taken apart already.
 pub fn note_end(iterations: usize, norm: f64, cost: f64, k: &mut [usize; 6], f: &mut [f64; 13])
     ensures { (k.new ≡ noted_count iterations k.old) × (f.new ≡ noted_end norm cost f.old) }
 {

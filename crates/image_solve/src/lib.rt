@@ -40,7 +40,7 @@ pub fn settings_given(
     }
 }
 
-// The small part of the run that the lent numbers stand for. An impl of From would have to stand beside one of the two records, in image or panoc_core.
+// The small part of the run that the lent numbers stand for. No impl of From, whose ghost member would say what the clause says here.
 pub fn solve_of<'a>(run: LentRead<'a>) -> Solve
     ensures { result ≡ small_read run.entry }
 {
@@ -98,7 +98,8 @@ pub fn store<'a>(s: Solve, run: Lent<'a>)
     keep(s, Lent { w, k, f });
 }
 
-// What a call gives, told in the lent numbers; its kind is the result, a number since C reads it.
+// What a call gives, told in the lent numbers; its kind is the result, a number since C reads it. As tell_alm of alm_image and tell of
+// psi_image: questions, ends and arrays are others, and one for all would take three closures.
 pub fn tell<'a>(o: Outcome, run: Lent<'a>) -> u32
     ensures { TellsAt (numbered o) result run.entry run.exit }
 {

@@ -52,7 +52,7 @@ AsksInner run = get_or run.lw.now 0 0 ≡ 3
 abbrev pub AsksItself : LoopLent → Type 0
 AsksItself run = AsksInner run → ⊥
 
--- the loop has asked by its inner solve, which gave o
+-- the loop has asked by its inner solve, which gave o; the lent slices and n fit, the run may be answered, and o is reached within the limits
 abbrev pub MayCarry : Outcome Question SolverStatus → LoopLent → OuterVectors → List Float → List Float → Type 0
 MayCarry o run at us xs =
     (length us ≤ 64) × (length xs ≤ 33) × (AsksInner run) × (Ready (loop_held run)) × (get_or run.k.now 3 0 ≡ get_or run.lk.now 4 0) × (EndsWithin (numbered o)) × (Reached (loop_held run) (inner_gave o run) at.u.now at.best.now)

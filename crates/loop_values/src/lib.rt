@@ -1,5 +1,6 @@
 // Loops of by-value calls of the multiplier loop, to be timed by bench/values.sh; apart from those of the inner solve, since what both use would be compiled once for
 // both, as a call of its own. They are proved safe, and say nothing of what they give.
+// values_c has functions of these names that call these: a crate is a library or a static library, not both.
 #![tactic(auto)]
 
 use alm::alm_optimizer::answer;

@@ -7,6 +7,7 @@ use panoc_core::panoc_cache::{Answered, Reply, Run};
 pub use panoc_in_place::answer_in_place;
 
 // An answer to the question of a run by value.
+// As alm_optimizer::answer: each names the vectors of its own run, which is most of it.
 pub fn answer(mut run: Run, a: Reply, v: &[f64], plan: &mut [f64]) -> Answered
     ensures { Answers run a v.now plan.old plan.new (answered result) }
 {

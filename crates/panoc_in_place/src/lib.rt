@@ -14,6 +14,7 @@ use panoc_plan::hand_out;
 use panoc_wanted::wants;
 
 // An answer to the question of a run in place: v is the vector where one is answered, and a plan goes into the lent slice.
+// As alm_in_place::answer_in_place, whose vectors are others and which hands out xi too: one for both would take the test and both hand-outs as closures.
 pub fn answer_in_place<'a>(
     s: Solve,
     a: Reply,

@@ -21,6 +21,7 @@ pub fn is_waiting(s: Solve) -> bool
 }
 
 // The points of the question of a run in place; refused where it has ended or a slice is not as long as its point.
+// As alm_points: two tests and two copies. One function for both would take what waits, both lengths and both copies as closures.
 pub fn points_in_place<'a>(
     s: Solve,
     first: &mut [f64],

@@ -56,6 +56,7 @@ pub fn on_tried_cost<'a>(x: f64, run: Lent<'a>) -> Outcome
 }
 
 // GRADIENT at a candidate is v.
+// As panoc_first::on_first_gradient, which says why the two are not one.
 pub fn on_tried_gradient<'a>(v: &[f64], run: Lent<'a>, at: Vectors<'a>) -> Outcome
     requires { (Sound (small run)) × (phase_in run ≡ Phase.TriedGradient) × (length v.now ≡ places_in run) }
     ensures goes { Takes (small run.entry) (held at.entry) Reply.Vector v.now (gives result run.exit) (left at.exit) }

@@ -7,7 +7,7 @@ use crate::both::{keep, sizes_of, tell};
 use factory::alm_factory::{PsiOutcome, PsiPhase, PsiState};
 use psi_kinds::Numbered;
 
-// The small part of the run that the lent numbers stand for: it is read from three arrays, which no impl of From takes.
+// The small part of the run that the lent numbers stand for. No impl of From, whose ghost member would say what the clause says here.
 pub fn psi_of(w: &[u32; 2], k: &[usize; 3], f: &[f64; 3]) -> PsiState
     ensures { result ≡ psi_of w.now k.now f.now }
 {

@@ -10,6 +10,7 @@ use transcript_lines::output;
 use transcript_lines::output::{Line, asked, ended};
 
 // What a call gave.
+// As transcript_loop::told: both are one call of output::told, each with the names, the places and the points of its own run.
 pub fn told(r: &Answered) -> Line {
     output::told(
         r.outcome,

@@ -16,6 +16,7 @@ fn seconds(s: Alm) -> usize {
 }
 
 // What a call gave.
+// As transcript_inner::told: both are one call of output::told, each with the names, the places and the points of its own run.
 pub fn told(r: &AlmAnswered) -> Line {
     output::told(
         r.outcome,

@@ -37,6 +37,7 @@ pub fn d_psi_told(r: &DPsiAnswered) -> Line {
 
 // A question, with the points that `points` gives: PROJECT on C has places of C, the products alone have a second point.
 // No Display: a line has the room that is proved for it, and the points are asked for here.
+// One arm a question: its word and the lengths of its points are the table itself.
 fn put_asked<P: FnOnce(&mut [f64], &mut [f64]) -> Result<(), Refusal>>(
     question: PsiQuestion,
     sizes: Sizes,

@@ -1,4 +1,5 @@
 // The loops of the crates values and loop_values for C, to be timed by bench/values.sh. They are proved safe, and say nothing of what they give.
+// Each calls the function of its name in values or loop_values: a crate is a library or a static library, not both.
 #![tactic(auto)]
 
 // A start a turn, and its points; the last number given.

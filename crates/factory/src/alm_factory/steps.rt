@@ -11,6 +11,7 @@ use panoc_core::outcome::{Outcome, Refusal, Stepped};
 use panoc_core::refusals::Wanted;
 
 // On to another phase, with what the call says.
+// As alm_core::alm_steps::to, of another record: one for both would take a trait that sets the phase.
 pub fn to<P: Copy, V: Copy>(
     s: State<P, V>,
     phase: P,
