@@ -158,6 +158,21 @@ CandidateAt r v q z =
     (q ≡ squares binary64 (difference_at r v.plus.now v))
     × (z ≡ dot binary64 (firsts (places_in r) v.gradient.now) (difference_at r v.plus.now v))
 
+-- the board b with the vectors named as they are in c
+abbrev pub Over : List Name → Board → Board → Board
+Over ns c b =
+    record {
+      u = cond (among U ns) c.u b.u;
+      plus = cond (among Plus ns) c.plus b.plus;
+      gradient = cond (among Gradient ns) c.gradient b.gradient;
+      previous = cond (among Previous ns) c.previous b.previous;
+      step = cond (among Step ns) c.step b.step;
+      half = cond (among Half ns) c.half b.half;
+      fpr = cond (among Fpr ns) c.fpr b.fpr;
+      direction = cond (among Direction ns) c.direction b.direction;
+      best = cond (among Best ns) c.best b.best;
+    }
+
 -- ---- the vectors of COST's answers; b is the board that they stand in
 
 abbrev pub costs_held : CostVectors → Board → Board

@@ -3,7 +3,7 @@
 
 ghost use Rattle.std.specs.Prelude.{◌≡◌, ◌∷◌, [], length};
 ghost use Rattle.panoc_core.specs.Board.{Board, Sound, Takes};
-ghost use Rattle.image.specs.LentRun.{small, gives, phase_in, places_in, held, left, Only, SameCounts, U, Gradient, Step};
+ghost use Rattle.image.specs.LentRun.{small, gives, phase_in, places_in, held, left, Only, Over, SameCounts, U, Gradient, Step};
 
 use image::lent::{Lent, Vectors};
 use image::places::{COST, N, NORM_H};
@@ -26,7 +26,7 @@ pub fn on_cost<'a>(x: f64, run: Lent<'a>) -> Outcome
 // GRADIENT at u is v. The shift of the estimate stays in u.
 pub fn on_gradient<'a>(v: &[f64], run: Lent<'a>, at: Vectors<'a>) -> Outcome
     requires { (Sound (small run)) × (phase_in run ≡ Phase.Gradient) × (length v.now ≡ places_in run) }
-    ensures goes { Takes (small run.entry) (held at.entry) Reply.Vector v.now (gives result run.exit) (left at.exit) }
+    ensures goes { (b : Board) → Takes (small run.entry) (Over (U ∷ []) (held at.entry) b) Reply.Vector v.now (gives result run.exit) (Over (U ∷ Gradient ∷ []) (left at.exit) b) }
     ensures vectors { Only (U ∷ Gradient ∷ []) (held at.entry) (left at.exit) }
     ensures counts { SameCounts run.entry run.exit }
 {
@@ -39,7 +39,7 @@ pub fn on_gradient<'a>(v: &[f64], run: Lent<'a>, at: Vectors<'a>) -> Outcome
 // GRADIENT at the shifted u is v.
 pub fn on_shifted<'a>(v: &[f64], run: Lent<'a>, at: Vectors<'a>) -> Outcome
     requires { (Sound (small run)) × (phase_in run ≡ Phase.Shifted) × (length v.now ≡ places_in run) }
-    ensures goes { Takes (small run.entry) (held at.entry) Reply.Vector v.now (gives result run.exit) (left at.exit) }
+    ensures goes { (b : Board) → Takes (small run.entry) (Over (U ∷ Gradient ∷ Step ∷ []) (held at.entry) b) Reply.Vector v.now (gives result run.exit) (Over (U ∷ Gradient ∷ Step ∷ []) (left at.exit) b) }
     ensures vectors { Only (Step ∷ []) (held at.entry) (left at.exit) }
     ensures counts { SameCounts run.entry run.exit }
 {
