@@ -6,7 +6,7 @@ ghost use Rattle.std.specs.Float.{binary64};
 ghost use Rattle.model.specs.Inner as I;
 ghost use Rattle.panoc_core.specs.Laws.{with_norms};
 ghost use Rattle.panoc_core.specs.Board.{Board, Sound, Finishes, set_of, state_at, set_gradient, set_previous, set_fpr};
-ghost use Rattle.image.specs.LentRun.{small, small_read, gives, held, left, norm_at, Only, SameCounts, Best};
+ghost use Rattle.image.specs.LentRun.{small, small_read, gives, held, left, norm_at, Only, Over, SameCounts, U, Half, Best};
 
 use image::lent::{Lent, LentRead, Vectors};
 use image::places::{AKKT, GAMMA, HAS_AKKT, LEAST, N, NORM, TOLERANCE};
@@ -18,7 +18,7 @@ use panoc_core::panoc_cache::{Outcome, Phase, Question, cache_best_half_step};
 // After the last step: its score, and the last COST; refused where u is not finite.
 pub fn finish<'a>(norm: f64, run: Lent<'a>, at: Vectors<'a>) -> Outcome
     requires { (Sound (small run)) × (norm ≡ norm_at run at) }
-    ensures goes { Finishes (small run.entry) (held at.entry) (gives result run.exit) (left at.exit) }
+    ensures goes { (b : Board) → Finishes (small run.entry) (Over (U ∷ Half ∷ Best ∷ []) (held at.entry) b) (gives result run.exit) (Over (U ∷ Half ∷ Best ∷ []) (left at.exit) b) }
     ensures vectors { Only (Best ∷ []) (held at.entry) (left at.exit) }
     ensures counts { SameCounts run.entry run.exit }
 {
