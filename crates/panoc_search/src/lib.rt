@@ -4,8 +4,8 @@
 ghost use Rattle.std.specs.Prelude.{◌≡◌, ◌∷◌, ◌&&◌, not, [], eqb, length};
 ghost use Rattle.std.specs.Float.Ieee.{lt};
 ghost use Rattle.panoc_core.specs.Board.{Board, Sound, Takes};
-ghost use Rattle.panoc_search.specs.Moves.{Searches, Retries};
-ghost use Rattle.image.specs.LentRun.{small, gives, phase_in, places_in, held, left, Only, SameCounts, SameFloats, Plus, Gradient, Step, Direction};
+ghost use Rattle.panoc_search.specs.Moves.{along, tried, again, Searches, Retries};
+ghost use Rattle.image.specs.LentRun.{small, gives, phase_in, places_in, held, left, Only, Over, SameCounts, SameFloats, Plus, Gradient, Step, Direction};
 
 use image::lent::{Lent, Vectors};
 use image::places::{COST, GAMMA, N, NORM, RHS, ROUNDS, SIGMA, TAU};
@@ -18,7 +18,7 @@ use panoc_core::panoc_cache::{Outcome, Phase, Question, Reply};
 // A later step's move begins: what a candidate is held to, and the candidate for τ = 1.
 pub fn linesearch<'a>(v: &[f64], run: Lent<'a>, at: Vectors<'a>) -> Outcome
     requires { (Sound (small run)) × (length v.now ≡ places_in run) }
-    ensures goes { Searches (small run.entry) (held at.entry) v.now (gives result run.exit) (left at.exit) }
+    ensures goes { (b : Board) → Searches (small run.entry) (Over along (held at.entry) b) v.now (gives result run.exit) (Over along (left at.exit) b) }
     ensures vectors { Only (Plus ∷ Direction ∷ []) (held at.entry) (left at.exit) }
 {
     let Lent { w, k, f } = run;
@@ -59,7 +59,7 @@ pub fn on_tried_cost<'a>(x: f64, run: Lent<'a>) -> Outcome
 // As panoc_first::on_first_gradient, which says why the two are not one.
 pub fn on_tried_gradient<'a>(v: &[f64], run: Lent<'a>, at: Vectors<'a>) -> Outcome
     requires { (Sound (small run)) × (phase_in run ≡ Phase.TriedGradient) × (length v.now ≡ places_in run) }
-    ensures goes { Takes (small run.entry) (held at.entry) Reply.Vector v.now (gives result run.exit) (left at.exit) }
+    ensures goes { (b : Board) → Takes (small run.entry) (Over tried (held at.entry) b) Reply.Vector v.now (gives result run.exit) (Over tried (left at.exit) b) }
     ensures vectors { Only (Gradient ∷ Step ∷ []) (held at.entry) (left at.exit) }
     ensures counts { SameCounts run.entry run.exit }
     ensures floats { SameFloats run.entry run.exit }
@@ -88,7 +88,7 @@ pub fn worse(rhs: f64, value: f64, rounds: usize) -> bool
 // Another candidate, with half the τ.
 pub fn try_again<'a>(run: Lent<'a>, at: Vectors<'a>) -> Outcome
     requires { (Sound (small run)) × ((small run).rounds ≡ 0 → ⊥) }
-    ensures goes { Retries (small run.entry) (held at.entry) (gives result run.exit) (left at.exit) }
+    ensures goes { (b : Board) → Retries (small run.entry) (Over again (held at.entry) b) (gives result run.exit) (Over again (left at.exit) b) }
     ensures vectors { Only (Plus ∷ []) (held at.entry) (left at.exit) }
 {
     let Lent { w, k, f } = run;
