@@ -3,7 +3,9 @@
 
 ghost use Rattle.std.specs.Prelude.{◌≡◌, ◌∷◌, [], length};
 ghost use Rattle.panoc_core.specs.Board.{Board, Sound, Takes};
-ghost use Rattle.image.specs.LentRun.{small, gives, phase_in, places_in, held, left, Only, SameCounts, SameFloats, U, Plus, Gradient, Step, Direction};
+ghost use Rattle.panoc_search.specs.Moves.{along};
+ghost use Rattle.panoc_first.specs.Touched.{first};
+ghost use Rattle.image.specs.LentRun.{small, gives, phase_in, places_in, held, left, Only, Over, SameCounts, SameFloats, U, Plus, Gradient, Step, Direction};
 
 use image::lent::{Lent, Vectors};
 use image::places::{COST, DONE, GAMMA, N};
@@ -16,7 +18,7 @@ use panoc_search::linesearch;
 // DIRECTION gave v: the first step's move goes to the half step, a later one searches along v.
 pub fn on_direction<'a>(v: &[f64], run: Lent<'a>, at: Vectors<'a>) -> Outcome
     requires { (Sound (small run)) × (phase_in run ≡ Phase.Direction) × (length v.now ≡ places_in run) }
-    ensures goes { Takes (small run.entry) (held at.entry) Reply.Vector v.now (gives result run.exit) (left at.exit) }
+    ensures goes { (b : Board) → Takes (small run.entry) (Over along (held at.entry) b) Reply.Vector v.now (gives result run.exit) (Over along (left at.exit) b) }
     ensures vectors { Only (U ∷ Plus ∷ Direction ∷ []) (held at.entry) (left at.exit) }
 {
     if run.k[DONE] == 0 {
@@ -40,7 +42,7 @@ pub fn on_first_cost<'a>(x: f64, run: Lent<'a>) -> Outcome
 // GRADIENT at the first iterate is v. As panoc_search::on_tried_gradient, but of u, with another phase and refusal, and so another law of its phase.
 pub fn on_first_gradient<'a>(v: &[f64], run: Lent<'a>, at: Vectors<'a>) -> Outcome
     requires { (Sound (small run)) × (phase_in run ≡ Phase.FirstGradient) × (length v.now ≡ places_in run) }
-    ensures goes { Takes (small run.entry) (held at.entry) Reply.Vector v.now (gives result run.exit) (left at.exit) }
+    ensures goes { (b : Board) → Takes (small run.entry) (Over first (held at.entry) b) Reply.Vector v.now (gives result run.exit) (Over first (left at.exit) b) }
     ensures vectors { Only (Gradient ∷ Step ∷ []) (held at.entry) (left at.exit) }
     ensures counts { SameCounts run.entry run.exit }
     ensures floats { SameFloats run.entry run.exit }
