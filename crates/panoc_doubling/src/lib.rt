@@ -3,7 +3,7 @@
 
 ghost use Rattle.std.specs.Prelude.{◌≡◌, ◌∷◌, [], length};
 ghost use Rattle.panoc_core.specs.Board.{Board, Sound, Takes};
-ghost use Rattle.image.specs.LentRun.{small, gives, phase_in, places_in, held, left, Only, SameCounts, SameFloats, Half, costs_held, costs_left, SameResidual};
+ghost use Rattle.image.specs.LentRun.{small, gives, phase_in, places_in, held, left, Only, Over, SameCounts, SameFloats, Half, costs_held, costs_left, SameResidual};
 
 use image::lent::{CostVectors, Lent, Vectors};
 use image::places::{COST, DONE, GAMMA, LEAST, N, TAU};
@@ -31,7 +31,7 @@ pub fn on_half_cost<'a>(x: f64, run: Lent<'a>, at: CostVectors<'a>) -> Outcome
 // PROJECT while doubling gave v.
 pub fn on_doubled_project<'a>(v: &[f64], run: Lent<'a>, at: Vectors<'a>) -> Outcome
     requires { (Sound (small run)) × (phase_in run ≡ Phase.DoubledProject) × (length v.now ≡ places_in run) }
-    ensures goes { Takes (small run.entry) (held at.entry) Reply.Vector v.now (gives result run.exit) (left at.exit) }
+    ensures goes { (b : Board) → Takes (small run.entry) (Over (Half ∷ []) (held at.entry) b) Reply.Vector v.now (gives result run.exit) (Over (Half ∷ []) (left at.exit) b) }
     ensures vectors { Only (Half ∷ []) (held at.entry) (left at.exit) }
     ensures counts { SameCounts run.entry run.exit }
     ensures floats { SameFloats run.entry run.exit }
