@@ -8,6 +8,7 @@ ghost use Rattle.panoc_core.specs.Values.{decided};
 ghost use Rattle.alm_core.specs.Rest.{LoopBoard, sized};
 ghost use Rattle.alm_core.specs.Board.{Ready, Takes, status_at, set_of, set_y};
 ghost use Rattle.alm_core.specs.LentLoop.{own_held, own_left, Only, U, Scratch, Y, Plus, W};
+ghost use Rattle.alm_handlers.specs.Boards.{f1_held, f1_left, f2_held, f2_left};
 ghost use Rattle.panoc_core.specs.declared.panoc_cache.Reply.TheVariants.{Vector, Number};
 
 use alm_core::alm_cache::{
@@ -23,7 +24,7 @@ use panoc_core::panoc_cache::ExitStatus;
 // F2 at the plan is v.
 pub fn on_f2<'a>(s: Alm, v: &[f64], at: OwnVectors<'a>) -> AlmStepped
     requires { (Ready s) × (s.phase ≡ AlmPhase.F2) × (length v.now ≡ s.set.n2) }
-    ensures goes { (b : LoopBoard) → Takes s (own_held at.entry b) Vector v.now (told result) (own_left at.exit b) }
+    ensures goes { (b : LoopBoard) → Takes s (f2_held at.entry b) Vector v.now (told result) (f2_left at.exit b) }
     ensures vectors { Only (U ∷ Scratch ∷ Y ∷ []) at.entry at.exit }
 {
     let OwnVectors {
@@ -47,7 +48,7 @@ pub fn on_f2<'a>(s: Alm, v: &[f64], at: OwnVectors<'a>) -> AlmStepped
 // F1 at the plan is v: the projection on C is asked at F1 + y / c.
 pub fn on_f1<'a>(s: Alm, v: &[f64], at: OwnVectors<'a>) -> AlmStepped
     requires { (Ready s) × (s.phase ≡ AlmPhase.F1) × (length v.now ≡ s.set.n1) }
-    ensures goes { (b : LoopBoard) → Takes s (own_held at.entry b) Vector v.now (told result) (own_left at.exit b) }
+    ensures goes { (b : LoopBoard) → Takes s (f1_held at.entry b) Vector v.now (told result) (f1_left at.exit b) }
     ensures vectors { Only (Plus ∷ W ∷ []) at.entry at.exit }
 {
     let OwnVectors { y, plus, w, .. } = at;
