@@ -1,4 +1,3 @@
-use Rattle.std.proofs.Common.{arith}
 use Rattle.alm_core.specs.Laws.{y_goes}
 use Rattle.alm_core.specs.Board.{set_y}
 use Rattle.alm_handlers.proofs.on_project_y.Goals as goal

@@ -1,9 +1,7 @@
-use Rattle.std.proofs.Common.{ap, subst}
+use Rattle.std.proofs.Common.{ap}
 use Rattle.alm_core.specs.Laws.{carries_asked, carries_ended, carries_refused, carries_failed}
-use Rattle.alm_core.specs.Board.{EndsWithin}
 use Rattle.alm_core.specs.LentLoop.{outer_held}
 use Rattle.panoc_core.specs.Told.{numbered, told}
-use Rattle.panoc_core.specs.Values.{Says}
 use Rattle.alm_inner.proofs.on_inner.Goals as goal
 
 pub returns-in-Asked : goal.returns-in-Asked

@@ -1,4 +1,3 @@
-use Rattle.std.proofs.Common.{arith}
 use Rattle.alm_core.specs.Laws.{weigh_ends, weigh_goes, counted_closing, closing_same, sized_same}
 use Rattle.alm_core.specs.LentLoop.{outer_held}
 use Rattle.alm_weigh.proofs.weigh.Goals as goal
