@@ -2,8 +2,9 @@
 #![tactic(auto, using(panoc_core::specs::Laws::sound_n))]
 
 ghost use Rattle.std.specs.Prelude.{◌∷◌, []};
-ghost use Rattle.panoc_core.specs.Board.{Sound, Steps};
-ghost use Rattle.image.specs.LentRun.{small, gives, held, left, ResidualAt, Only, SameCounts, Previous, Best};
+ghost use Rattle.panoc_core.specs.Board.{Board, Sound, Steps};
+ghost use Rattle.panoc_step.specs.Names.{six};
+ghost use Rattle.image.specs.LentRun.{small, gives, held, left, ResidualAt, Only, Over, SameCounts, Previous, Best};
 
 use image::lent::{Lent, LentRead, Vectors};
 use image::places::{COST, DONE, GAMMA, LEAST, N, TAU};
@@ -19,7 +20,7 @@ use panoc_finish::{exit_condition, finish};
 // cost at the half step is held to is kept.
 pub fn step<'a>(norm: f64, product: f64, run: Lent<'a>, at: Vectors<'a>) -> Outcome
     requires { (Sound (small run)) × (ResidualAt run at norm product) }
-    ensures goes { Steps (small run.entry) (held at.entry) (gives result run.exit) (left at.exit) }
+    ensures goes { (b : Board) → Steps (small run.entry) (Over six (held at.entry) b) (gives result run.exit) (Over six (left at.exit) b) }
     ensures vectors { Only (Previous ∷ Best ∷ []) (held at.entry) (left at.exit) }
     ensures counts { SameCounts run.entry run.exit }
 {
