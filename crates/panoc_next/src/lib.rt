@@ -2,8 +2,9 @@
 #![tactic(auto)]
 
 ghost use Rattle.std.specs.Prelude.{◌∷◌, []};
-ghost use Rattle.panoc_core.specs.Board.{Sound, Laps};
-ghost use Rattle.image.specs.LentRun.{small, gives, held, left, ResidualAt, Only, Previous, Best};
+ghost use Rattle.panoc_core.specs.Board.{Board, Sound, Laps};
+ghost use Rattle.panoc_step.specs.Names.{six};
+ghost use Rattle.image.specs.LentRun.{small, gives, held, left, ResidualAt, Only, Over, Previous, Best};
 
 use image::lent::{Lent, Vectors};
 use image::places::{DONE, LEFT, LIMITED};
@@ -17,7 +18,7 @@ use panoc_step::step;
 // The next step is counted, and TIME is asked if a limit is set; where none is left the solve ends.
 pub fn next_step<'a>(norm: f64, product: f64, run: Lent<'a>, at: Vectors<'a>) -> Outcome
     requires { (Sound (small run)) × (ResidualAt run at norm product) }
-    ensures goes { Laps (small run.entry) (held at.entry) (gives result run.exit) (left at.exit) }
+    ensures goes { (b : Board) → Laps (small run.entry) (Over six (held at.entry) b) (gives result run.exit) (Over six (left at.exit) b) }
     ensures vectors { Only (Previous ∷ Best ∷ []) (held at.entry) (left at.exit) }
 {
     let left = run.k[LEFT];

@@ -4,7 +4,8 @@ use mathlib.Core.Bool.{not}
 use borrow.Author.Tests.{eq-eqb, ne_eqb}
 use Rattle.panoc_core.specs.Laws.{sound_left, sound_count, next_none, next_asks}
 use Rattle.panoc_core.specs.Rest.{sound}
-use Rattle.image.specs.LentRun.{small, held}
+use Rattle.image.specs.LentRun.{small, held, Over}
+use Rattle.panoc_step.specs.Names.{six}
 use Rattle.std.proofs.Common.{arith, refl, ap, ◌∙◌}
 use Rattle.panoc_next.proofs.next_step.Goals as goal
 
@@ -13,14 +14,15 @@ unfolding sound
 finish-requires c = (c.requires.0, c.requires.1.1)
 
 pub returns-then-left-eq0-clause-goes : goal.returns-then-left-eq0-clause-goes
-returns-then-left-eq0-clause-goes c = next_none (small c.args.run) (held c.args.at) _ _ c.if-left-eq0.true (rw c.put_status.ensures at c.finish.ensures.goes)
+returns-then-left-eq0-clause-goes c =
+    λ b. rw (c.finish.ensures.vectors.2, c.finish.ensures.vectors.3, c.finish.ensures.vectors.6) (next_none (small c.args.run) (Over six (held c.args.at) b) _ _ c.if-left-eq0.true (rw c.put_status.ensures at (c.finish.ensures.goes (Over six (held c.args.at) b))))
 
 pub overflow_add-done : goal.overflow_add-done
 overflow_add-done c = omega (arith, sound_left (small c.args.run) c.requires.0, sound_count (small c.args.run) c.requires.0)
 
 pub returns-then-run-ne0-clause-goes : goal.returns-then-run-ne0-clause-goes
 returns-then-run-ne0-clause-goes c =
-    rw (c.ask.ensures.outcome, c.ask.ensures.moved, c.put_steps.ensures) (next_asks (small c.args.run) (held c.args.at) _ _ c.requires.0 (omega (arith, c.if-left-eq0.false)) (ap not (ne_eqb _ _ c.if-run-ne0.true)) refl)
+    λ b. rw (c.ask.ensures.outcome, c.ask.ensures.moved, c.put_steps.ensures) (next_asks (small c.args.run) (Over six (held c.args.at) b) _ _ c.requires.0 (omega (arith, c.if-left-eq0.false)) (ap not (ne_eqb _ _ c.if-run-ne0.true)) refl)
 
 pub step-requires : goal.step-requires
 unfolding sound
@@ -29,4 +31,4 @@ step-requires c =
 
 pub returns-clause-goes : goal.returns-clause-goes
 returns-clause-goes c =
-    next_lent c.args.run.w.now _ c.args.run.k.now _ c.args.run.f.now _ _ (omega (arith, c.if-left-eq0.false)) refl c.put_steps.ensures (held c.args.at) _ _ _ (ap not (eq-eqb _ _ c.if-run-ne0.false)) (λ s. status_round _ ∙ c.standing.ensures s) c.put_status-2.ensures c.step.ensures.goes
+    λ b. next_lent c.args.run.w.now _ c.args.run.k.now _ c.args.run.f.now _ _ (omega (arith, c.if-left-eq0.false)) refl c.put_steps.ensures (Over six (held c.args.at) b) _ _ _ (ap not (eq-eqb _ _ c.if-run-ne0.false)) (λ s. status_round _ ∙ c.standing.ensures s) c.put_status-2.ensures (c.step.ensures.goes b)
