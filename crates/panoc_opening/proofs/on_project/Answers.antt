@@ -1,6 +1,7 @@
 use Rattle.panoc_opening.specs.Laws.{project_lent}
 use Rattle.panoc_core.specs.Laws.{project_sound}
-use Rattle.image.specs.LentRun.{small, held}
+use Rattle.image.specs.LentRun.{small, held, Over}
+use Rattle.panoc_step.specs.Names.{six}
 use Rattle.std.proofs.Common.{arith}
 use Rattle.panoc_opening.proofs.on_project.Goals as goal
 
@@ -9,4 +10,4 @@ step-requires c = rw (c.put_status.ensures, c.put_steps.ensures, c.put_norms.ens
 
 pub returns-clause-goes : goal.returns-clause-goes
 returns-clause-goes c =
-    project_lent c.args.run.w.now c.args.run.k.now c.args.run.f.now (held c.args.at) _ _ _ _ _ _ _ _ _ _ c.requires.0 c.requires.1 c.requires.2 c.take_into.ensures c.zero_into.ensures c.zero_into-2.ensures c.infinity.ensures c.put_status.ensures c.put_steps.ensures c.put_norms.ensures c.step.ensures.goes
+    λ b. project_lent c.args.run.w.now c.args.run.k.now c.args.run.f.now (Over six (held c.args.at) b) _ _ _ _ _ _ _ _ _ _ c.requires.0 c.requires.1 c.requires.2 c.take_into.ensures c.zero_into.ensures c.zero_into-2.ensures c.infinity.ensures c.put_status.ensures c.put_steps.ensures c.put_norms.ensures (c.step.ensures.goes b)
