@@ -2,8 +2,9 @@
 #![tactic(auto, using(panoc_core::specs::Laws::sound_n))]
 
 ghost use Rattle.std.specs.Prelude.{◌∷◌, []};
-ghost use Rattle.panoc_core.specs.Board.{Sound, Times, Onward};
-ghost use Rattle.image.specs.LentRun.{small, gives, held, left, ResidualAt, Only, SameCounts, Previous, Fpr, Best};
+ghost use Rattle.panoc_core.specs.Board.{Board, Sound, Times, Onward};
+ghost use Rattle.panoc_step.specs.Names.{six};
+ghost use Rattle.image.specs.LentRun.{small, gives, held, left, ResidualAt, Only, Over, SameCounts, Previous, Fpr, Best};
 
 use image::lent::{Lent, Vectors};
 use image::places::{LEFT, N, STATUS};
@@ -16,7 +17,7 @@ use panoc_next::next_step;
 // TIME was answered: the residual, and the next step.
 pub fn timed<'a>(in_time: bool, run: Lent<'a>, at: Vectors<'a>) -> Outcome
     requires { Sound (small run) }
-    ensures goes { Times (small run.entry) in_time (held at.entry) (gives result run.exit) (left at.exit) }
+    ensures goes { (b : Board) → Times (small run.entry) in_time (Over six (held at.entry) b) (gives result run.exit) (Over six (left at.exit) b) }
     ensures vectors { Only (Previous ∷ Fpr ∷ Best ∷ []) (held at.entry) (left at.exit) }
     ensures counts { SameCounts run.entry run.exit }
 {
@@ -55,7 +56,7 @@ pub fn timed<'a>(in_time: bool, run: Lent<'a>, at: Vectors<'a>) -> Outcome
 // After a step that did not end the solve.
 pub fn onward<'a>(norm: f64, product: f64, run: Lent<'a>, at: Vectors<'a>) -> Outcome
     requires { (Sound (small run)) × (ResidualAt run at norm product) }
-    ensures goes { Onward (small run.entry) (held at.entry) (gives result run.exit) (left at.exit) }
+    ensures goes { (b : Board) → Onward (small run.entry) (Over six (held at.entry) b) (gives result run.exit) (Over six (left at.exit) b) }
     ensures vectors { Only (Previous ∷ Best ∷ []) (held at.entry) (left at.exit) }
 {
     if run.w[STATUS] == ExitStatus::Converged as u32 {
