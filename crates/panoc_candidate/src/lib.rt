@@ -2,8 +2,9 @@
 #![tactic(auto, using(panoc_core::specs::Laws::sound_n))]
 
 ghost use Rattle.std.specs.Prelude.{◌∷◌, []};
-ghost use Rattle.panoc_core.specs.Board.{Sound, Onward, set_u};
-ghost use Rattle.image.specs.LentRun.{small, gives, held, left, CandidateAt, Only, U, Previous, Fpr, Best};
+ghost use Rattle.panoc_core.specs.Board.{Board, Sound, Onward, set_u};
+ghost use Rattle.panoc_steps.specs.Names.{six};
+ghost use Rattle.image.specs.LentRun.{small, gives, held, left, CandidateAt, Only, Over, U, Previous, Fpr, Best};
 
 use image::lent::{Lent, Vectors};
 use image::places::N;
@@ -18,7 +19,7 @@ pub fn take_candidate<'a>(
     at: Vectors<'a>,
 ) -> Outcome
     requires { (Sound (small run)) × (CandidateAt run at norm_squared product) }
-    ensures goes { Onward (small run.entry) (set_u at.entry.plus.now (held at.entry)) (gives result run.exit) (left at.exit) }
+    ensures goes { (b : Board) → Onward (small run.entry) (set_u at.entry.plus.now (Over six (held at.entry) b)) (gives result run.exit) (Over six (left at.exit) b) }
     ensures vectors { Only (U ∷ Previous ∷ Fpr ∷ Best ∷ []) (held at.entry) (left at.exit) }
 {
     let Lent { w, k, f } = run;
