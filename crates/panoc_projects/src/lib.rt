@@ -2,8 +2,9 @@
 #![tactic(auto, using(panoc_core::specs::Laws::sound_n))]
 
 ghost use Rattle.std.specs.Prelude.{◌≡◌, ◌∷◌, [], length};
-ghost use Rattle.panoc_core.specs.Board.{Sound, Takes};
-ghost use Rattle.image.specs.LentRun.{small, gives, phase_in, places_in, held, left, Only, U, Plus, Previous, Half, Fpr, Best};
+ghost use Rattle.panoc_core.specs.Board.{Board, Sound, Takes};
+ghost use Rattle.panoc_steps.specs.Names.{six};
+ghost use Rattle.image.specs.LentRun.{small, gives, phase_in, places_in, held, left, Only, Over, U, Plus, Previous, Half, Fpr, Best};
 
 use image::lent::{Lent, Vectors};
 use image::places::{COST, GAMMA, N, RHS, ROUNDS};
@@ -16,7 +17,7 @@ use panoc_steps::onward;
 // PROJECT of the first iterate gave v.
 pub fn on_first_project<'a>(v: &[f64], run: Lent<'a>, at: Vectors<'a>) -> Outcome
     requires { (Sound (small run)) × (phase_in run ≡ Phase.FirstProject) × (length v.now ≡ places_in run) }
-    ensures goes { Takes (small run.entry) (held at.entry) Reply.Vector v.now (gives result run.exit) (left at.exit) }
+    ensures goes { (b : Board) → Takes (small run.entry) (Over six (held at.entry) b) Reply.Vector v.now (gives result run.exit) (Over six (left at.exit) b) }
     ensures vectors { Only (Previous ∷ Half ∷ Fpr ∷ Best ∷ []) (held at.entry) (left at.exit) }
 {
     let Lent { w, k, f } = run;
