@@ -4,8 +4,9 @@ ghost use Rattle.std.proofs.Math.Option.{some};
 ghost use Rattle.model.specs.Process.{Kind};
 ghost use Rattle.model.specs.Refusals.{answer_refusal};
 ghost use Rattle.panoc_core.specs.Values.{reply_of, decided};
-ghost use Rattle.panoc_core.specs.Board.{Takes, wanted_of, wants_vector};
-ghost use Rattle.image.specs.LentRun.{small, gives, places_in, held, left, Only, SameCounts, Previous, Fpr, Best};
+ghost use Rattle.panoc_core.specs.Board.{Board, Takes, wanted_of, wants_vector};
+ghost use Rattle.panoc_steps.specs.Names.{six};
+ghost use Rattle.image.specs.LentRun.{small, gives, places_in, held, left, Only, Over, SameCounts, Previous, Fpr, Best};
 
 use image::kinds::phase_of;
 use image::lent::{CostVectors, Lent, Vectors};
@@ -43,7 +44,7 @@ pub fn on_vector<'a>(v: &[f64], run: Lent<'a>, at: Vectors<'a>) -> Outcome
 // A yes or no that was asked for.
 pub fn on_decision<'a>(yes: bool, run: Lent<'a>, at: Vectors<'a>) -> Outcome
     requires { wanted_of (small run) ≡ some Kind.decision }
-    ensures goes { Takes (small run.entry) (held at.entry) (decided yes) [] (gives result run.exit) (left at.exit) }
+    ensures goes { (b : Board) → Takes (small run.entry) (Over six (held at.entry) b) (decided yes) [] (gives result run.exit) (Over six (left at.exit) b) }
     ensures vectors { Only (Previous ∷ Fpr ∷ Best ∷ []) (held at.entry) (left at.exit) }
     ensures counts { SameCounts run.entry run.exit }
 {

@@ -23,10 +23,10 @@ pub returns-in-Vector : goal.returns-in-Vector
 returns-in-Vector c = took_vector (small c.args.run) (held c.args.at) _ _ _ _ c.in-Vector.is c.on_vector.ensures
 
 pub returns-in-Yes : goal.returns-in-Yes
-returns-in-Yes c = took_decision (small c.args.run) (held c.args.at) _ _ _ _ true c.in-Yes.is c.on_decision.ensures.goes
+returns-in-Yes c = rw (c.on_decision.ensures.vectors.1, c.on_decision.ensures.vectors.4, c.on_decision.ensures.vectors.7) (took_decision (small c.args.run) (held c.args.at) _ _ _ _ true c.in-Yes.is (c.on_decision.ensures.goes (held c.args.at)))
 
 pub returns-in-No : goal.returns-in-No
-returns-in-No c = took_decision (small c.args.run) (held c.args.at) _ _ _ _ false c.in-No.is c.on_decision-in-No.ensures.goes
+returns-in-No c = rw (c.on_decision-in-No.ensures.vectors.1, c.on_decision-in-No.ensures.vectors.4, c.on_decision-in-No.ensures.vectors.7) (took_decision (small c.args.run) (held c.args.at) _ _ _ _ false c.in-No.is (c.on_decision-in-No.ensures.goes (held c.args.at)))
 
 pub returns-in-Failure : goal.returns-in-Failure
 returns-in-Failure c = rw (c.fail.ensures.outcome, c.fail.ensures.moved) (took_failure (small c.args.run) (held c.args.at) _ _ _ _ c.in-Failure.is (refusal_of (small c.args.run) _ c.in-Failure.is c.requires) refl)
