@@ -2,7 +2,6 @@ use Rattle.panoc_opening.specs.Laws.{project_lent}
 use Rattle.panoc_core.specs.Laws.{project_sound}
 use Rattle.image.specs.LentRun.{small, held, Over}
 use Rattle.panoc_step.specs.Names.{six}
-use Rattle.std.proofs.Common.{arith}
 use Rattle.panoc_opening.proofs.on_project.Goals as goal
 
 pub step-requires : goal.step-requires

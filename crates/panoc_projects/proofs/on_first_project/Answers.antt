@@ -1,7 +1,6 @@
 use Rattle.panoc_core.specs.Laws.{first_project_goes}
 use Rattle.image.specs.LentRun.{small, held, Over}
 use Rattle.panoc_steps.specs.Names.{six}
-use Rattle.std.proofs.Common.{arith}
 use Rattle.panoc_projects.proofs.on_first_project.Goals as goal
 
 pub returns-clause-goes : goal.returns-clause-goes

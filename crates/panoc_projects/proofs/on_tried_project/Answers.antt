@@ -1,7 +1,6 @@
 use Rattle.panoc_projects.specs.Laws.{envelope_of, size_of, product_of, worse_less, worse_rounds, tried_worse, tried_takes}
 use Rattle.panoc_core.specs.Board.{set_half}
 use Rattle.image.specs.LentRun.{small, held}
-use Rattle.std.proofs.Common.{arith}
 use Rattle.panoc_projects.proofs.on_tried_project.Goals as goal
 
 pub try_again-requires : goal.try_again-requires
