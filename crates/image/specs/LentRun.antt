@@ -5,7 +5,7 @@ use Rattle.std.specs.Float.{binary64}
 use Rattle.ieee.specs.Sums.{squares, norm}
 use Rattle.matrix_operations.specs.Firsts.{firsts}
 use Rattle.model.specs.Vectors.{minus, dot}
-use Rattle.panoc_core.specs.Board.{Board, Residual, five}
+use Rattle.panoc_core.specs.Board.{Board, Residual, five, set_u, set_gradient, set_step}
 use Rattle.panoc_core.specs.declared.outcome.Outcome.{Outcome}
 use Rattle.panoc_core.specs.declared.panoc_cache.Phase.{Phase}
 use Rattle.panoc_core.specs.declared.panoc_cache.Question.{Question}
@@ -178,6 +178,10 @@ Over ns c b =
 abbrev pub costs_held : CostVectors → Board → Board
 costs_held v b = five v.u.now v.gradient.now v.step.now v.half.now v.fpr.now b
 
+-- without the half step and the residual, which b has
+abbrev pub steps_held : CostVectors → Board → Board
+steps_held v b = set_u v.u.now (set_gradient v.gradient.now (set_step v.step.now b))
+
 -- what a call leaves in them
 abbrev Read : Type 0
 Read = Bor (List Float)
@@ -187,6 +191,9 @@ CostsLeft = Read × (Read × (Array × (Read × (Array × Unit {0}))))
 
 abbrev pub costs_left : CostsLeft → Board → Board
 costs_left v b = five v.0.now v.1.0.now v.1.1.0.now v.1.1.1.0.now v.1.1.1.1.0.now b
+
+abbrev pub steps_left : CostsLeft → Board → Board
+steps_left v b = set_u v.0.now (set_gradient v.1.0.now (set_step v.1.1.0.now b))
 
 -- the residual stays; those that are lent to be read stay by their type
 abbrev pub SameResidual : CostVectors → CostsLeft → Type 0

@@ -3,7 +3,7 @@
 
 ghost use Rattle.std.specs.Prelude.{◌≡◌, ◌∷◌, [], length};
 ghost use Rattle.panoc_core.specs.Board.{Board, Sound, Takes};
-ghost use Rattle.image.specs.LentRun.{small, gives, phase_in, places_in, held, left, Only, Over, SameCounts, SameFloats, Half, costs_held, costs_left, SameResidual};
+ghost use Rattle.image.specs.LentRun.{small, gives, phase_in, places_in, held, left, Only, Over, SameCounts, SameFloats, Half, costs_held, costs_left, steps_held, steps_left, SameResidual};
 
 use image::lent::{CostVectors, Lent, Vectors};
 use image::places::{COST, DONE, GAMMA, LEAST, N, TAU};
@@ -17,7 +17,7 @@ use panoc_lipschitz::update_lipschitz_constant;
 // COST at the half step is x. The start also forgets.
 pub fn on_half_cost<'a>(x: f64, run: Lent<'a>, at: CostVectors<'a>) -> Outcome
     requires { (Sound (small run)) × (phase_in run ≡ Phase.HalfCost) }
-    ensures goes { (b : Board) → Takes (small run.entry) (costs_held at.entry b) (Reply.Number x) [] (gives result run.exit) (costs_left at.exit b) }
+    ensures goes { (b : Board) → Takes (small run.entry) (steps_held at.entry b) (Reply.Number x) [] (gives result run.exit) (steps_left at.exit b) }
     ensures vectors { SameResidual at.entry at.exit }
 {
     if !numeric::is_finite(x) {

@@ -3,7 +3,7 @@
 
 ghost use Rattle.panoc_core.specs.Board.{Board, Sound};
 ghost use Rattle.panoc_lipschitz.specs.Doubling.{AsksDirection, Doubles};
-ghost use Rattle.image.specs.LentRun.{small, gives, SameCounts, costs_held, costs_left, SameResidual};
+ghost use Rattle.image.specs.LentRun.{small, gives, SameCounts, steps_held, steps_left, SameResidual};
 
 use image::kinds::flag_of;
 use image::lent::{CostVectors, Lent};
@@ -28,7 +28,7 @@ pub fn ask_direction<'a>(run: Lent<'a>) -> Outcome
 // The doubling: another round while the half step's cost exceeds its ceiling, which is kept among the numbers, else DIRECTION.
 pub fn update_lipschitz_constant<'a>(cost: f64, run: Lent<'a>, at: CostVectors<'a>) -> Outcome
     requires { Sound (small run) }
-    ensures goes { (b : Board) → Doubles (small run.entry) (costs_held at.entry b) cost (gives result run.exit) (costs_left at.exit b) }
+    ensures goes { (b : Board) → Doubles (small run.entry) (steps_held at.entry b) cost (gives result run.exit) (steps_left at.exit b) }
     ensures vectors { SameResidual at.entry at.exit }
 {
     let rounds = run.k[ROUNDS];

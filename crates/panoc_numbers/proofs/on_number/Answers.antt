@@ -1,3 +1,4 @@
+use Rattle.panoc_core.specs.Board.{set_half, set_fpr}
 use Rattle.panoc_core.specs.Wanted.{wanted_sound}
 use Rattle.panoc_numbers.proofs.Phases.{number_phase}
 use Rattle.model.specs.Process.{Kind}
@@ -27,7 +28,7 @@ pub returns-in-Cost : goal.returns-in-Cost
 returns-in-Cost c = λ b. c.on_cost.ensures.goes (costs_held c.args.at b)
 
 pub returns-in-HalfCost : goal.returns-in-HalfCost
-returns-in-HalfCost c = λ b. c.on_half_cost.ensures.goes b
+returns-in-HalfCost c = λ b. rw c.on_half_cost.ensures.vectors (c.on_half_cost.ensures.goes (set_half c.args.at.half.now (set_fpr c.args.at.fpr.now b)))
 
 pub returns-in-DoubledCost : goal.returns-in-DoubledCost
 returns-in-DoubledCost c = c.on_doubled_cost.ensures
