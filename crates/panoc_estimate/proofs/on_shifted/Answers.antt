@@ -1,6 +1,6 @@
 use Rattle.panoc_core.specs.Laws.{shifted_goes, shifted_stops}
 use Rattle.image.specs.LentRun.{small, held, Over, U, Gradient, Step}
-use Rattle.std.proofs.Common.{◌∷◌, [], arith, refl, sym, ◌∙◌}
+use Rattle.std.proofs.Common.{◌∷◌, [], refl, sym, ◌∙◌}
 use Rattle.panoc_estimate.proofs.on_shifted.Goals as goal
 
 pub returns-then-not-both_finite-clause-goes : goal.returns-then-not-both_finite-clause-goes
