@@ -10,7 +10,7 @@ ghost use Rattle.alm_core.specs.Board.{Comes, set_of, stepped};
 use crate::alm_cache::{Alm, AlmOutcome, AlmPhase, AlmQuestion, AlmStepped};
 use panoc_core::panoc_cache::ExitStatus;
 
-// On to another phase, with what the call says.
+// On to another phase, with what the call says. As factory's `to`: the records, and what is said of them, are others.
 pub fn to(s: Alm, phase: AlmPhase, outcome: AlmOutcome) -> AlmStepped
     ensures { told result ≡ stepped (numbered outcome) phase s }
 {

@@ -1,5 +1,6 @@
 // The vectors of a run of the loop that lie in lent arrays, as records of references. A call for C puts them together, a handler takes them
-// whole and says which of them it changes.
+// whole and says which of them it changes. That a loop is sound is a clause and no invariant, and a record is put together again for a second
+// call, as image::lent says.
 
 // The vectors that the end of an outer iteration works on: best is u's best half step, plus is y_plus.
 #[derive(Drop)]

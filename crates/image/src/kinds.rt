@@ -1,7 +1,7 @@
 // Enums as numbers. Any number is read. Functions and no From: an impl would stand beside the enums, in panoc_core, and the numbers are
 // those of this layout. A number from an enum without fields is its place in the enum.
 ghost use Rattle.std.specs.Prelude.{◌≡◌};
-ghost use Rattle.image.specs.Image.{phase_of, phase_number, status_of, status_number, flag_of, flag_number, akkt_of, akkt_set, akkt_value, question_of, question_number, reply_of};
+ghost use Rattle.image.specs.Image.{phase_of, phase_number, status_of, status_number, flag_of, flag_number, akkt_of, akkt_set, akkt_value, question_number, reply_of};
 
 use panoc_core::panoc_cache::{ExitStatus, Phase, Question, Reply};
 
@@ -64,7 +64,7 @@ pub fn flag_of(x: u32) -> bool
 pub fn flag_number(b: bool) -> u32
     ensures { result ≡ flag_number b }
 {
-    b as u32
+    u32::from(b)
 }
 
 // An AKKT tolerance, where one is set.
@@ -77,7 +77,7 @@ pub fn akkt_of(set: u32, t: f64) -> Option<f64>
 pub fn akkt_set(a: Option<f64>) -> u32
     ensures { result ≡ akkt_set a }
 {
-    a.is_some() as u32
+    u32::from(a.is_some())
 }
 
 pub fn akkt_value(a: Option<f64>) -> f64
@@ -86,20 +86,7 @@ pub fn akkt_value(a: Option<f64>) -> f64
     a.unwrap_or(0.0)
 }
 
-// A question by its number; any other is TIME's.
-pub fn question_of(m: u32) -> Question
-    ensures { result ≡ question_of m }
-{
-    match m {
-        0 => Question::Cost,
-        1 => Question::Gradient,
-        2 => Question::Project,
-        3 => Question::Direction(false),
-        4 => Question::Direction(true),
-        _ => Question::Time,
-    }
-}
-
+// The number that C reads: that of DIRECTION also says whether to forget.
 pub fn question_number(q: Question) -> u32
     ensures { result ≡ question_number q }
 {

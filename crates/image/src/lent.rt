@@ -1,6 +1,8 @@
 // A run that lies in lent arrays, as records of references: its small part as numbers, and its vectors. A call for C puts them together,
 // a handler takes them whole and says which of them it changes. That a run is sound, and that an answer has its places, are clauses of each
 // handler and no invariant: C lends any numbers, and what a run waits for is tested once, at the call.
+// A record that two calls need is taken apart and put together again for each: a call takes it whole, and of a record that is still in use
+// the borrow checker lends no two fields to one call.
 
 // The small part, laid out as specs/Image.antt has it.
 #[derive(Drop)]

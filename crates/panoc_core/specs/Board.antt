@@ -96,10 +96,6 @@ set_direction x b = record { u = b.u; plus = b.plus; gradient = b.gradient; prev
 abbrev pub set_best : List Float → Board → Board
 set_best x b = record { u = b.u; plus = b.plus; gradient = b.gradient; previous = b.previous; step = b.step; half = b.half; fpr = b.fpr; direction = b.direction; best = x }
 
--- the vectors of a step: u, gradient, previous gradient, half step, residual and best half step
-abbrev pub six : List Float → List Float → List Float → List Float → List Float → List Float → Board → Board
-six u g p h r x b = record { u = u; plus = b.plus; gradient = g; previous = p; step = b.step; half = h; fpr = r; direction = b.direction; best = x }
-
 -- all vectors
 abbrev pub nine : List Float → List Float → List Float → List Float → List Float → List Float → List Float → List Float → List Float → Board
 nine u w g p t h r d b = record { u = u; plus = w; gradient = g; previous = p; step = t; half = h; fpr = r; direction = d; best = b }

@@ -34,7 +34,7 @@ use Rattle.panoc_core.specs.declared.panoc_cache.Solve.{Solve}
 use Rattle.panoc_core.specs.declared.panoc_cache.Run.{Run}
 use Rattle.panoc_core.specs.Values.{akkt_of, status_of, exit_status_of, question_of, Step}
 use Rattle.panoc_core.specs.Rest.{rest, resume, sound, retry_of, doubling_at, half_cost_at}
-use Rattle.panoc_core.specs.Board.{Board, run_of, Comes, Takes, Sound, Ceiling, Envelope, best_at, set_of, end_of, next_at, iterate_at, state_at, with_numbers, at_phase, with_status, stepped, set_u, set_plus, set_gradient, set_step, set_half, set_fpr, set_direction, set_best, set_previous, six}
+use Rattle.panoc_core.specs.Board.{Board, run_of, Comes, Takes, Sound, Ceiling, Envelope, best_at, set_of, end_of, next_at, iterate_at, state_at, with_numbers, at_phase, with_status, stepped, set_u, set_plus, set_gradient, set_step, set_half, set_fpr, set_direction, set_best, set_previous}
 
 -- ---- both of two tests
 pub and_left : (a b : Bool) → (a && b) ≡ true → a ≡ true
@@ -530,22 +530,6 @@ module _ (s : Solve) (b : Board) (ok : Sound s) (r : Step) where
   again_asks k τ w z τv wv e p =
       subst (λ (m : ℕ). Comes s.set (I.retry binary64 (set_of s) m (end_of s) (next_at s) s.numbers.tau s.numbers.rhs_ls (firsts s.set.n b.direction) p (state_at s b)) r (set_plus w b)) (sym z)
       (rw (← τv) (asks_comes (with_rounds k s.forget (with_search τ s.numbers.rhs_ls s)) (set_plus w b) P.TriedCost _ _ _ r ok e (rw wv)))
-
-  module _ (v h : List Float) (x : Float) (ph : s.phase ≡ P.TriedProject) (l : length v ≡ s.set.n) (hv : firsts (length v) h ≡ v) (xv : x ≡ I.envelope binary64 (iterate_at s (set_half h b))) where
-    half_is : firsts s.set.n h ≡ v
-    half_is = taken s.set.n v h l hv
-
-    value_is : x ≡ I.envelope binary64 (S.with_half v (iterate_at s b))
-    value_is = xv ∙ ap (λ (z : List Float). I.envelope binary64 (S.with_half z (iterate_at s b))) half_is
-
-    module _ (u p f w : List Float)
-        (c : (d : Board) → Comes s.set (I.onward binary64 (set_of s) (end_of s) (next_at s) (S.with_u (firsts s.set.n b.plus) (iterate_at s (six b.u b.gradient b.previous h b.fpr b.best d)))) r (six u b.gradient p h f w d)) where
-      abbrev b' : Board
-      b' = six u b.gradient p h f w b
-
-      onward_is : Comes s.set (I.onward binary64 (set_of s) (end_of s) (next_at s) (S.with_u (firsts s.set.n b.plus) (S.with_half v (iterate_at s b)))) r b'
-      onward_is =
-          subst (λ (z : List Float). Comes s.set (I.onward binary64 (set_of s) (end_of s) (next_at s) (S.with_u (firsts s.set.n b.plus) (S.with_half z (iterate_at s b)))) r b') half_is (c b)
 
 -- ---- the formulas, at the code's literals
 pub gamma_is : (l m : Float) → m ≡ larger l (of_bits binary64 4457293557087583675) → div binary64 (of_bits binary64 4606732058837280358) m ≡ I.gamma_of binary64 l

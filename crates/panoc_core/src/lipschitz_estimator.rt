@@ -1,4 +1,5 @@
-// The numbers of the Lipschitz estimate and of its tests. An array with a count, as vector_copies has it.
+// The numbers of the Lipschitz estimate and of its tests. An array with a count, as vector_copies has it;
+// that n ≤ 64 is a clause, as matrix_operations says.
 ghost use Rattle.std.specs.Prelude.{◌≡◌, ◌&&◌, ◌≤◌};
 ghost use Rattle.std.specs.Float.{binary64};
 ghost use Rattle.std.specs.Float.Ieee.{lt};

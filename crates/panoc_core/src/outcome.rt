@@ -2,26 +2,27 @@
 ghost use Rattle.std.specs.Prelude.{◌≡◌};
 ghost use Rattle.panoc_core.specs.Told.{refusal_number};
 
-// The table's refusals by what is wrong, at a start, at an answer, and within a run that then ends. 9 is a failure, which has the host's code.
+// The table's refusals by what is wrong, at a start, at an answer, and within a run that then ends, with the table's numbers. 9 is a
+// failure, which has the host's code.
 #[derive(Clone, Copy, PartialEq, Eq, Debug)]
 pub enum Refusal {
-    Sizes,
-    Mappings,
-    Limits,
-    Tolerances,
-    Multipliers,
-    Over,
-    Kind,
-    Lengths,
-    FirstCost,
-    HalfCost,
-    DoubledCost,
-    FirstIterate,
-    Candidate,
-    Plan,
-    LastCost,
-    OutOfTime,
-    Infeasibility,
+    Sizes = 1,
+    Mappings = 2,
+    Limits = 3,
+    Tolerances = 4,
+    Multipliers = 5,
+    Over = 6,
+    Kind = 7,
+    Lengths = 8,
+    FirstCost = 10,
+    HalfCost = 11,
+    DoubledCost = 12,
+    FirstIterate = 13,
+    Candidate = 14,
+    Plan = 15,
+    LastCost = 16,
+    OutOfTime = 17,
+    Infeasibility = 18,
 }
 
 impl Refusal {
@@ -29,25 +30,7 @@ impl Refusal {
     pub fn number(self) -> u32
         ensures { result ≡ refusal_number self }
     {
-        match self {
-            Refusal::Sizes => 1,
-            Refusal::Mappings => 2,
-            Refusal::Limits => 3,
-            Refusal::Tolerances => 4,
-            Refusal::Multipliers => 5,
-            Refusal::Over => 6,
-            Refusal::Kind => 7,
-            Refusal::Lengths => 8,
-            Refusal::FirstCost => 10,
-            Refusal::HalfCost => 11,
-            Refusal::DoubledCost => 12,
-            Refusal::FirstIterate => 13,
-            Refusal::Candidate => 14,
-            Refusal::Plan => 15,
-            Refusal::LastCost => 16,
-            Refusal::OutOfTime => 17,
-            Refusal::Infeasibility => 18,
-        }
+        self as u32
     }
 }
 

@@ -1,10 +1,9 @@
-// The records of an inner solve: what it is given, where it stands, its vectors. An array with a count, as vector_copies has it.
+// The records of an inner solve: what it is given, where it stands, its vectors. An array with a count, as vector_copies has it;
+// that n ≤ 64 is a clause, as matrix_operations says.
 ghost use Rattle.std.specs.Prelude.{◌≡◌, cond, ◌≤◌, eqb};
-ghost use Rattle.std.specs.Float.{binary64};
 ghost use Rattle.matrix_operations.specs.Firsts.{firsts};
 ghost use Rattle.model.specs.State.{keep};
-ghost use Rattle.model.specs.Inner.{passes};
-ghost use Rattle.panoc_core.specs.Board.{Board, at_phase, with_status, best_at, set_of, state_at, set_gradient, set_previous, set_fpr};
+ghost use Rattle.panoc_core.specs.Board.{best_at};
 
 // What a start is given: n, M, whether TIME is asked, the tolerances. That of AKKT may be missing in an inner solve used alone.
 #[derive(Clone, Copy, Debug, PartialEq)]
@@ -132,13 +131,6 @@ pub struct Run {
 
 // What a call by value gives, with the run.
 pub type Answered = crate::outcome::Answered<Outcome, Run>;
-
-// The same run at another phase.
-pub fn at_phase(s: Solve, phase: Phase) -> Solve
-    ensures { result ≡ at_phase phase s }
-{
-    Solve { phase, ..s }
-}
 
 // Keeps the previous gradient if at least one step is done.
 pub fn cache_previous_gradient(

@@ -11,7 +11,7 @@ ghost use Rattle.panoc_core.specs.Calls.{Starts};
 use panoc_core::outcome::Refusal;
 use panoc_core::panoc_cache::{
     Answered, ExitStatus, InnerIterations, Numbers, Outcome, Phase, Question, Run, Settings, Solve,
-    Stepped, at_phase,
+    Stepped,
 };
 use start_numbers::{limit_right, tolerance_right};
 use start_sizes::sizes_right;
@@ -39,10 +39,7 @@ pub fn start_refusal(set: Settings, us: usize) -> Option<Refusal>
 pub fn akkt_right(akkt: Option<f64>) -> bool
     ensures { result ≡ R.akkt_right (akkt_of akkt) }
 {
-    match akkt {
-        None => true,
-        Some(t) => tolerance_right(t),
-    }
+    akkt.is_none_or(tolerance_right)
 }
 
 // The small part of a run that waits for its first COST.
@@ -87,12 +84,15 @@ pub fn start_in_place(set: Settings, first: &[f64], u: &mut [f64; 64]) -> Steppe
         }
         Some(refusal) => Stepped {
             outcome: Outcome::Refused(refusal),
-            state: at_phase(solve, Phase::Over),
+            state: Solve {
+                phase: Phase::Over,
+                ..solve
+            },
         },
     }
 }
 
-// A run by value that is begun at u, or its refusal.
+// A run by value that is begun at u, or its refusal. As alm_starts::start: each names the vectors of its own run, which is most of it.
 pub fn start(set: Settings, u: &[f64]) -> Answered
     ensures { Starts set u.now (answered result) }
 {

@@ -1,4 +1,5 @@
 // A guess of a root by Newton's steps, which no proof relies on.
+// That m lies in its range is a clause and no invariant: square_root makes m at one place, and a type for it would be named by four crates.
 #![tactic(auto)]
 
 ghost use Rattle.std.specs.Prelude.{◌*◌, ◌^◌, ◌≤◌, ◌<◌};

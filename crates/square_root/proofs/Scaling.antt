@@ -42,7 +42,7 @@ sized_small f b k h l =
     ∙ ap (λ (x : ℕ). x * 2 ^ low f) (mul-one b ∙ sym (mag_small f b h))
 
 -- ---- a subnormal that is shifted by an even number of digits, with 52 or 53 behind the first
--- the shift by two digits at a time
+-- the shift by an even count of digits
 abbrev pub steps : ℕ → ℕ
 steps b = (count_leading_zeros 64 b - 10) / 2
 

@@ -1,4 +1,5 @@
 // The root of a number above zero, from its bit pattern: a guess by Newton's steps, which no proof relies on, and an exact test of it.
+// That m lies in its range is a clause and no invariant: `parts` makes it at one place, and a type for it would be named by four crates.
 #![tactic(auto)]
 
 ghost use Rattle.std.specs.Prelude.{◌≡◌, not, ◌*◌, ◌^◌, ◌≤◌, ◌<◌, T};

@@ -1,5 +1,6 @@
 // Vectors copied, into an array of 64 and out of one; zeros, and infinity.
 // An array with a count, as C lends it: with slices, tried and as fast, each caller owes bounds, and that a slice holds the first places.
+// That n ≤ 64 is a clause, as matrix_operations says.
 #![tactic(auto)]
 
 ghost use Rattle.std.specs.Prelude.{◌≡◌, false, ◌≤◌, length, replicate};
@@ -34,21 +35,21 @@ pub fn give(a: &[f64; 64], u: &mut [f64])
     u.copy_from_slice(&a[..u.len()]);
 }
 
-// Sixty-four zeros.
+// Sixty-four zeros, by a name: callers learn of the literal here that it is `null` at every place.
 pub fn zeros() -> [f64; 64]
     ensures { result ≡ replicate 64 null }
 {
     [0.0; 64]
 }
 
-// r = 0, at every place.
+// r = 0, at every place, by a name as zeros.
 pub fn zero_into(r: &mut [f64; 64])
     ensures { r.new ≡ replicate 64 null }
 {
     *r = [0.0; 64];
 }
 
-// Infinity.
+// Infinity, by a name: callers learn of the constant here which float it is.
 pub fn infinity() -> f64
     ensures { result ≡ inf false }
 {

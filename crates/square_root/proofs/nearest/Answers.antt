@@ -1,5 +1,5 @@
 -- `square_root::nearest` meets its contract: what the test passed, or the digits of the root. Assumes nothing.
-use Rattle.std.proofs.Common.{◌<◌, ◌-◌, ◌^◌, arith}
+use Rattle.std.proofs.Common.{◌<◌, ◌-◌, ◌^◌}
 use Rattle.std.specs.Float.Ieee.{binary64}
 use Rattle.square_root.proofs.Scaling.{root_hi, digits_near, at_54}
 use Rattle.square_root.proofs.nearest.Goals as goal

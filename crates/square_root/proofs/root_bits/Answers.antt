@@ -1,5 +1,5 @@
 -- `square_root::root_bits` meets its contract (`proofs/Scaling.antt`). Assumes nothing.
-use Rattle.std.proofs.Common.{◌^◌, ◌<◌, arith}
+use Rattle.std.proofs.Common.{◌^◌, ◌<◌}
 use Rattle.std.specs.Float.Ieee.{binary64}
 use Rattle.square_root.proofs.Scaling.{near_hi, finish, no_nan_bits}
 use Rattle.square_root.proofs.root_bits.Goals as goal
