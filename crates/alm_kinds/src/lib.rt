@@ -7,12 +7,11 @@ ghost use Rattle.alm_kinds.specs.AlmKinds.{phase_of, phase_number, question_numb
 use alm_core::alm_cache::{AlmPhase, AlmQuestion};
 use image::kinds::question_number;
 
-// A number that is no phase's counts as ended.
+// 0 is of a run that has ended, and so counts a number that is no phase's.
 pub fn alm_phase_of(p: u32) -> AlmPhase
     ensures { result ≡ phase_of p }
 {
     match p {
-        0 => AlmPhase::Over,
         1 => AlmPhase::Time,
         2 => AlmPhase::ProjectY,
         3 => AlmPhase::Inner,

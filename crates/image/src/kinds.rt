@@ -5,12 +5,11 @@ ghost use Rattle.image.specs.Image.{phase_of, phase_number, status_of, status_nu
 
 use panoc_core::panoc_cache::{ExitStatus, Phase, Question, Reply};
 
-// A number that is no phase's counts as ended.
+// 0 is of a run that has ended, and so counts a number that is no phase's.
 pub fn phase_of(p: u32) -> Phase
     ensures { result ≡ phase_of p }
 {
     match p {
-        0 => Phase::Over,
         1 => Phase::Cost,
         2 => Phase::Gradient,
         3 => Phase::Shifted,

@@ -114,10 +114,7 @@ pub fn tell<'a>(o: Outcome, run: Lent<'a>) -> u32
             note_end(end.iterations.0, end.norm_fpr, end.cost_value, k, f);
             told::ENDED
         }
-        Outcome::Refused(refusal) => {
-            note(refusal.number(), w);
-            told::REFUSED
-        }
+        Outcome::Refused(refusal) => refuse(refusal, w),
         Outcome::Failed(code) => {
             note(code, w);
             told::FAILED
