@@ -46,11 +46,11 @@ pub struct Run<S, B> {
 // Which question a run of psi waits for. Over: it has ended.
 #[derive(Clone, Copy, PartialEq, Eq, Debug)]
 pub enum PsiPhase {
+    Over,
     Cost,
     F1,
     ProjectC,
     F2,
-    Over,
 }
 
 // The vectors of a run of psi: t is F1 + y / max(c, 1), work a copy of an answer.
@@ -84,13 +84,13 @@ pub type PsiAnswered = Answered<PsiOutcome, PsiRun>;
 // Which question a run of d_psi waits for, where psi asks others. Over: it has ended.
 #[derive(Clone, Copy, PartialEq, Eq, Debug)]
 pub enum DPsiPhase {
+    Over,
     Gradient,
     F1,
     ProjectC,
     Jf1t,
     F2,
     Jf2t,
-    Over,
 }
 
 // The vectors of a run of d_psi: gradient is d_psi so far, t is F1 + y / c, d the vector of a product, work a copy of an answer.
