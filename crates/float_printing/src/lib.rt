@@ -18,10 +18,10 @@ const QUIET: u64 = 9221120237041090560;
 pub fn to_bits(x: f64) -> u64
     ensures { result ≡ to_bits binary64 x }
 {
-    if x != x {
+    if x.is_nan() {
         return QUIET;
     }
-    f64::to_bits(x)
+    x.to_bits()
 }
 
 // A float as 16 hexadecimal digits.

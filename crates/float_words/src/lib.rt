@@ -29,7 +29,7 @@ pub fn of_bits(b: u64) -> f64
     ensures { result ≡ of_bits binary64 b }
 {
     if b % SIGN > INFINITY {
-        return 0.0 / 0.0;
+        return f64::NAN;
     }
     f64::from_bits(b)
 }

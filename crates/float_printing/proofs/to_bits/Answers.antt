@@ -1,10 +1,15 @@
--- `float_printing::to_bits` meets its contract: only nan differs from itself. Assumes nothing.
-use Rattle.ieee.proofs.Special.{no_nan}
-use Rattle.word_numbers.specs.Floats.{nan_bits_lem}
+-- `float_printing::to_bits` meets its contract: a NaN's pattern is 7ff8000000000000. Assumes nothing.
+use Rattle.std.specs.Prelude.{◌≡◌, refl, true, Float}
+use Rattle.std.proofs.Common.{sym, ◌∙◌, true≢false}
+use Rattle.std.specs.Float.{nan, inf, fin, binary64}
+use Rattle.std.specs.Float.Ieee.{is_nan, to_bits}
 use Rattle.float_printing.proofs.to_bits.Goals as goal
 
-pub returns-then-x : goal.returns-then-x
-returns-then-x c = nan_bits_lem _ c.if-x.true
+bits_of_nan : (x : Float) → is_nan x ≡ true → 9221120237041090560 ≡ to_bits binary64 x
+unfolding is_nan to_bits
+bits_of_nan nan e = refl
+bits_of_nan (inf s) e = absurd (true≢false (sym e))
+bits_of_nan (fin s m k) e = absurd (true≢false (sym e))
 
-pub float_to_bits-result : goal.float_to_bits-result
-float_to_bits-result c = no_nan _ c.if-x.false
+pub returns-then-is_nan : goal.returns-then-is_nan
+returns-then-is_nan c = bits_of_nan _ (sym c.is_nan.ensures.value ∙ c.if-is_nan.true)
