@@ -1,5 +1,5 @@
 -- Laws for loops that read floats. Assumes nothing.
-use Rattle.std.specs.Prelude.{◌≡◌, refl, List, [], ◌∷◌, ◌++◌, ℕ, suc, ◌+◌, ◌-◌, ◌≤◌, ◌<◌, Option, Some, None, Result, Ok, Err, OnOk, OnErr, IsOk, length}
+use Rattle.std.specs.Prelude.{◌≡◌, refl, List, [], ◌∷◌, ◌++◌, ℕ, suc, ◌+◌, ◌-◌, ◌≤◌, ◌<◌, Some, None, Result, Ok, Err, OnOk, OnErr, IsOk, length}
 use Rattle.std.specs.Result.{result_ok}
 use Rattle.std.specs.Float.Ieee.{Float}
 use Rattle.std.proofs.Common.{arith, lt-ltb, le-ltb}

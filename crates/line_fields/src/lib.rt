@@ -1,7 +1,7 @@
 // The fields of a line, read one behind the other.
 #![tactic(auto)]
 
-ghost use Rattle.std.specs.Prelude.{◌≡◌, ◌≤◌, [], drop, length, ◌==◌, option_map};
+ghost use Rattle.std.specs.Prelude.{◌≡◌, ◌≤◌, [], drop, length, ◌==◌, option_map, MatchOption};
 ghost use Rattle.std.specs.Iterator.{YieldsFirstRef};
 ghost use Rattle.words.specs.Splitting.{words_of};
 ghost use Rattle.line_fields.specs.Fields.{whole_field, code_field, flag_field, float_field, tolerance_field, floats_field, rest_field, Gives};
@@ -76,27 +76,27 @@ impl<'a> Fields<'a> {
         read_tolerance(self.words.next()?)
     }
 
-    // n floats, and the fields behind them.
-    pub fn floats<const N: usize>(mut self, n: usize) -> Option<(ArrayVec<f64, N>, Self)>
+    // n floats.
+    pub fn floats<const N: usize>(&mut self, n: usize) -> Option<ArrayVec<f64, N>>
         requires { n ≤ N }
-        ensures { option_map (λ r. (r.0.items, left r.1)) result ≡ floats_field [] n (left self.entry) }
+        ensures { let f = floats_field [] n (left self.old) in MatchOption result (f ≡ None) (λ xs. f ≡ Some (xs.items, left self.new)) }
     {
         let mut floats = ArrayVec::new();
         for _ in 0..n {
             floats.push(self.float()?);
         }
-        Some((floats, self))
+        Some(floats)
     }
 
     // All that is left, as at most N floats.
     pub fn rest<const N: usize>(self) -> Option<ArrayVec<f64, N>>
         ensures { option_map (λ r. r.items) result ≡ rest_field N [] (left self.entry) }
     {
-        let mut floats = ArrayVec::new();
+        let mut rest = ArrayVec::new();
         for word in self.words {
-            floats.try_push(read_float(word)?).ok()?;
+            rest.try_push(read_float(word)?).ok()?;
         }
-        Some(floats)
+        Some(rest)
     }
 
     // Whether nothing is left.

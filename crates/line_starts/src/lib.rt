@@ -34,7 +34,7 @@ pub fn lent<const U: usize, const XI: usize>(
     if n > U as u64 {
         return None;
     }
-    let (first, fields) = fields.floats(n as usize)?;
+    let first = fields.floats(n as usize)?;
     let second = fields.rest()?;
     Some(Said {
         command,

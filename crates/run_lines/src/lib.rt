@@ -1,7 +1,8 @@
 // The lines that start a run.
 #![tactic(auto)]
 
-ghost use Rattle.std.specs.Prelude.{◌≡◌, option_map};
+ghost use Rattle.std.specs.Prelude.{◌≡◌};
+ghost use Rattle.line_fields.specs.Fields.{Gives};
 ghost use Rattle.line_fields.specs.Left.{left};
 ghost use Rattle.line_starts.specs.Lines.{sizes_field, inner_line, loop_line};
 
@@ -32,25 +33,24 @@ pub fn inner<const U: usize, const XI: usize>(mut fields: Fields) -> Option<Said
     })
 }
 
-// N N1 N2, and the fields behind them.
+// N N1 N2
 #[tactic(auto, unfolding(line_starts::specs::Lines::sizes_field))]
-pub fn sizes(mut fields: Fields) -> Option<(Sizes, Fields)>
-    ensures { option_map (λ r. (r.0, left r.1)) result ≡ sizes_field (left fields.entry) }
+pub fn sizes(fields: &mut Fields) -> Option<Sizes>
+    ensures { Gives (sizes_field (left fields.old)) result (left fields.new) }
 {
-    let sizes = Sizes {
+    Some(Sizes {
         n: fields.whole()? as usize,
         n1: fields.whole()? as usize,
         n2: fields.whole()? as usize,
-    };
-    Some((sizes, fields))
+    })
 }
 
 // loop N N1 N2 Y M K LIMITED TOLERANCE EPSILON DELTA AKKT PENALTY_FACTOR EPSILON_FACTOR COEFFICIENT LENGTH_U U... XI...
 #[tactic(auto, unfolding(line_starts::specs::Lines::loop_line))]
-pub fn outer<const U: usize, const XI: usize>(fields: Fields) -> Option<Said<U, XI>>
+pub fn outer<const U: usize, const XI: usize>(mut fields: Fields) -> Option<Said<U, XI>>
     ensures { result ≡ loop_line U XI (left fields.entry) }
 {
-    let (sizes, mut fields) = sizes(fields)?;
+    let sizes = sizes(&mut fields)?;
     let settings = AlmSettings {
         n: sizes.n,
         n1: sizes.n1,

@@ -13,6 +13,7 @@ use panoc_core::panoc_cache::Reply;
 use run_lines::{inner, outer, sizes};
 
 // What a line says, None for a line of another form; as many places may be lent of u and of xi as U and XI say.
+// One match over the keywords: each arm is another reader, so a table is no plainer.
 #[tactic(auto, unfolding(line_starts::specs::Lines::meant, line_starts::specs::Lines::by_words, line_starts::specs::Lines::line_by, line_starts::specs::Lines::psi_line, line_starts::specs::Lines::d_psi_line))]
 pub fn said<const U: usize, const XI: usize>(line: &[u8]) -> Option<Said<U, XI>>
     ensures { result ≡ meant U XI line.now }
@@ -22,11 +23,11 @@ pub fn said<const U: usize, const XI: usize>(line: &[u8]) -> Option<Said<U, XI>>
         Keyword::Inner => inner(fields),
         Keyword::Loop => outer(fields),
         Keyword::Psi => {
-            let (sizes, fields) = sizes(fields)?;
+            let sizes = sizes(&mut fields)?;
             lent(fields, Command::Psi(sizes))
         }
         Keyword::DPsi => {
-            let (sizes, fields) = sizes(fields)?;
+            let sizes = sizes(&mut fields)?;
             lent(fields, Command::DPsi(sizes))
         }
         Keyword::Number => number(fields),

@@ -9,4 +9,4 @@ abbrev pub invariant-loop-word : goal.invariant-loop-word
 invariant-loop-word g l =
     (goal.iterator-loop-word g).can_next l.word-iterator
     × (goal.iterator-loop-word g).is_finite l.word-iterator
-    × (rest_field g.row.N l.floats.items (words_left l.word-iterator) ≡ rest_field g.row.N [] (left l.fn.self))
+    × (rest_field g.row.N l.rest.items (words_left l.word-iterator) ≡ rest_field g.row.N [] (left l.fn.self))
