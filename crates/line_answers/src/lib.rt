@@ -18,11 +18,7 @@ pub fn bare<const U: usize, const XI: usize>(
 ) -> Option<Said<U, XI>>
     ensures { result ≡ closed U XI (left fields.entry) command }
 {
-    if fields.ended() {
-        Some(alone(command))
-    } else {
-        None
-    }
+    fields.ended().then_some(alone(command))
 }
 
 // number X
@@ -62,10 +58,7 @@ pub fn lend<const U: usize, const XI: usize>(mut fields: Fields) -> Option<Said<
 {
     let u = fields.whole()?;
     let xi = fields.whole()?;
-    if u > U as u64 {
-        return None;
-    }
-    if xi > XI as u64 {
+    if u > U as u64 || xi > XI as u64 {
         return None;
     }
     bare(fields, Command::Lend(u as usize, xi as usize))
