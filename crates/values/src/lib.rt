@@ -6,6 +6,7 @@ pub mod d_psi_calls;
 pub mod inner_calls;
 pub mod psi_calls;
 
+use image::told::number_in;
 use panoc_core::outcome::{Outcome, Refusal};
 use panoc_core::panoc_cache::Reply;
 
@@ -13,14 +14,11 @@ use panoc_core::panoc_cache::Reply;
 pub fn last_number<F: FnMut() -> Result<(), Refusal>>(turns: usize, mut call: F) -> u32
     requires { F.IsAlwaysCallable call }
 {
-    let mut last = Err(Refusal::Sizes);
+    let mut last = None;
     for _ in 0..turns {
-        last = call();
+        last = Some(call());
     }
-    match last {
-        Ok(()) => 0,
-        Err(refusal) => refusal.number(),
-    }
+    last.map_or(1, number_in)
 }
 
 // The answer to what a call gave: a vector where it asks nothing.
