@@ -28,7 +28,8 @@ pub trait Numbered: Copy {
     ghost round: { (p : Self) → phase_of (number_of p) ≡ p };
 }
 
-// The numbers for C, which a question has in the loop too: an impl of From would have to stand in the questions' own crate.
+// The numbers for C, which a question has in the loop too: an impl of From would have to stand in the questions' own crate, and so would the
+// discriminants that `as u32` reads.
 pub fn question_number(q: PsiQuestion) -> u32
     ensures { result ≡ question_number q }
 {
