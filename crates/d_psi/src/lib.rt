@@ -2,6 +2,7 @@
 #![tactic(auto)]
 
 // The public calls take any run, also one that no start made: `wants` tests its sizes once, and the handlers are told that they are sound.
+// That is a clause and no invariant, as image::lent says; n ≤ 64 is one, as matrix_operations says.
 // Beside the handlers of psi, which have other phases and other vectors: each is a few calls of what both share.
 // A handler of one vector or two is lent these alone; a handler of three takes the lent vectors whole, and says which stay.
 ghost use Rattle.std.specs.Prelude.{◌≡◌, true, ◌≤◌, length};
@@ -19,10 +20,8 @@ ghost use Rattle.factory.specs.FactoryLent.{d_psi_held, d_psi_left, SameGradient
 use factory::alm_factory::steps::{refuses, to, wants};
 use factory::alm_factory::terms::shifted_into;
 use factory::alm_factory::{
-    DPsiAnswered, DPsiBoard, DPsiOutcome, DPsiPhase, DPsiRun, DPsiState, DPsiStepped, DPsiVectors,
-    PsiQuestion,
+    DPsiAnswered, DPsiOutcome, DPsiPhase, DPsiRun, DPsiState, DPsiStepped, DPsiVectors, PsiQuestion,
 };
-use panoc_core::outcome::Refusal;
 use panoc_core::panoc_cache::Reply;
 use panoc_core::refusals::refusal;
 use panoc_plan::hand_out;
@@ -141,7 +140,7 @@ fn on_vector<'a>(s: DPsiState, v: &[f64], at: DPsiVectors<'a>) -> DPsiStepped
             let DPsiVectors { gradient, work, .. } = at;
             on_jf2t(s, v, gradient, work)
         }
-        DPsiPhase::Over => refuses(s, Refusal::Over),
+        DPsiPhase::Over => unreachable!(),
     }
 }
 
@@ -154,7 +153,7 @@ fn step<'a>(s: DPsiState, a: Reply, v: &[f64], at: DPsiVectors<'a>) -> DPsiStepp
     match a {
         Reply::Vector => on_vector(s, v, at),
         Reply::Failure(code) => to(s, DPsiPhase::Over, DPsiOutcome::Failed(code)),
-        Reply::Number(_) | Reply::Yes | Reply::No => refuses(s, Refusal::Kind),
+        Reply::Number(_) | Reply::Yes | Reply::No => unreachable!(),
     }
 }
 
@@ -195,33 +194,21 @@ pub fn answer_in_place<'a>(
     r
 }
 
-// An answer to the question of a run by value. Beside that of psi, which is lent no result.
-pub fn answer(run: DPsiRun, a: Reply, v: &[f64], res: &mut [f64]) -> DPsiAnswered
+// An answer to the question of a run by value. Beside that of psi, which is lent no result and lends y by `&mut` too for the same reason.
+pub fn answer(mut run: DPsiRun, a: Reply, v: &[f64], res: &mut [f64]) -> DPsiAnswered
     ensures { DPsiAnswers run a v.now res.old res.new (answered result) }
 {
-    let mut gradient = run.board.gradient;
-    let mut t = run.board.t;
-    let mut d = run.board.d;
-    let mut work = run.board.work;
     let at = DPsiVectors {
-        y: &run.board.y,
-        gradient: &mut gradient,
-        t: &mut t,
-        d: &mut d,
-        work: &mut work,
+        y: &mut run.board.y,
+        gradient: &mut run.board.gradient,
+        t: &mut run.board.t,
+        d: &mut run.board.d,
+        work: &mut run.board.work,
     };
     let r = answer_in_place(run.state, a, v, res, at);
+    run.state = r.state;
     DPsiAnswered {
         outcome: r.outcome,
-        run: DPsiRun {
-            state: r.state,
-            board: DPsiBoard {
-                gradient,
-                t,
-                d,
-                work,
-                ..run.board
-            },
-        },
+        run,
     }
 }

@@ -2,6 +2,7 @@
 #![tactic(auto)]
 
 // The public calls take any run, also one that no start made: `wants` tests its sizes once, and the handlers are told that they are sound.
+// That is a clause and no invariant, as image::lent says.
 // Beside the handlers of d_psi, which have other phases and other vectors: each is a few calls of what both share.
 // A handler of one vector or two is lent these alone; a handler of three takes the lent vectors whole.
 ghost use Rattle.std.specs.Prelude.{◌≡◌, true, List, Float, length};
@@ -16,10 +17,8 @@ ghost use Rattle.factory.specs.FactoryLent.{psi_held, psi_left};
 use factory::alm_factory::steps::{refuses, to, wants};
 use factory::alm_factory::terms::shifted_into;
 use factory::alm_factory::{
-    PsiAnswered, PsiBoard, PsiOutcome, PsiPhase, PsiQuestion, PsiRun, PsiState, PsiStepped,
-    PsiVectors,
+    PsiAnswered, PsiOutcome, PsiPhase, PsiQuestion, PsiRun, PsiState, PsiStepped, PsiVectors,
 };
-use panoc_core::outcome::Refusal;
 use panoc_core::panoc_cache::Reply;
 use panoc_core::refusals::refusal;
 use penalty_terms::{divisor, penalized};
@@ -101,8 +100,7 @@ fn on_vector<'a>(s: PsiState, v: &[f64], at: PsiVectors<'a>) -> PsiStepped
             on_project_c(s, v, t, work)
         }
         PsiPhase::F2 => on_f2(s, v, at.work),
-        PsiPhase::Cost => refuses(s, Refusal::Kind),
-        PsiPhase::Over => refuses(s, Refusal::Over),
+        PsiPhase::Cost | PsiPhase::Over => unreachable!(),
     }
 }
 
@@ -116,7 +114,7 @@ fn step<'a>(s: PsiState, a: Reply, v: &[f64], at: PsiVectors<'a>) -> PsiStepped
         Reply::Number(x) => on_cost(s, x),
         Reply::Vector => on_vector(s, v, at),
         Reply::Failure(code) => to(s, PsiPhase::Over, PsiOutcome::Failed(code)),
-        Reply::Yes | Reply::No => refuses(s, Refusal::Kind),
+        Reply::Yes | Reply::No => unreachable!(),
     }
 }
 
@@ -130,27 +128,20 @@ pub fn answer_in_place<'a>(s: PsiState, a: Reply, v: &[f64], at: PsiVectors<'a>)
     }
 }
 
-// An answer to the question of a run by value. Beside that of d_psi, which is lent a result.
-pub fn answer(run: PsiRun, a: Reply, v: &[f64]) -> PsiAnswered
+// An answer to the question of a run by value. Beside that of d_psi, which is lent a result. y is lent by `&mut` too: a vector by `&` beside others
+// by `&mut` of one variable gets no generated proof.
+pub fn answer(mut run: PsiRun, a: Reply, v: &[f64]) -> PsiAnswered
     ensures { PsiAnswers run a v.now (answered result) }
 {
-    let mut t = run.board.t;
-    let mut work = run.board.work;
     let at = PsiVectors {
-        y: &run.board.y,
-        t: &mut t,
-        work: &mut work,
+        y: &mut run.board.y,
+        t: &mut run.board.t,
+        work: &mut run.board.work,
     };
     let r = answer_in_place(run.state, a, v, at);
+    run.state = r.state;
     PsiAnswered {
         outcome: r.outcome,
-        run: PsiRun {
-            state: r.state,
-            board: PsiBoard {
-                t,
-                work,
-                ..run.board
-            },
-        },
+        run,
     }
 }
