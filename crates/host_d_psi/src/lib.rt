@@ -10,6 +10,7 @@ ghost use Rattle.psi_kinds.specs.PsiKinds.{reply_of};
 use d_psi::answer_in_place;
 use factory::alm_factory::DPsiVectors;
 use psi_image::d_psi::{d_psi_of, keep_d_psi, tell_d_psi};
+use psi_image::lent::{PenaltyLent, PenaltyRead};
 use psi_kinds::reply_of;
 
 // An answer to the question of a run; the result goes into the lent slice. A kind of none is answered as a no, which d_psi never takes.
@@ -32,7 +33,7 @@ pub extern "C" fn pozkerrin_d_psi_answer(
 ) -> u32
     ensures { (b : DPsiBoard) → DPsiAnswers (run_of (d_psi_of w.old k.old f.old) (d_psi_five y.now gradient.old t.old d.old work.old b)) (reply_of kind x code) v.now res.old res.new (gave (d_psi_step_of result w.new k.new f.new) (d_psi_five y.now gradient.new t.new d.new work.new b)) }
 {
-    let s = d_psi_of(w, k, f);
+    let s = d_psi_of(PenaltyRead { w, k, f });
     let a = reply_of(kind, x, code);
     let at = DPsiVectors {
         y,
@@ -42,6 +43,6 @@ pub extern "C" fn pozkerrin_d_psi_answer(
         work,
     };
     let r = answer_in_place(s, a, v, res, at);
-    keep_d_psi(r.state, w, k, f);
+    keep_d_psi(r.state, PenaltyLent { w, k, f });
     tell_d_psi(r.outcome, w)
 }

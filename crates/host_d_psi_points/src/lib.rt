@@ -10,6 +10,7 @@ ghost use Rattle.psi_image.specs.PsiImage.{d_psi_of};
 use d_psi_points::points_in_place;
 use image::told::number_in;
 use psi_image::d_psi::d_psi_of;
+use psi_image::lent::PenaltyRead;
 
 // The points of the question of a run; a product has a second: 0, or 6 where it has ended and 8 where a slice is not as long as its point.
 // host_c has a function of this name that calls this one: a crate is a library or a static library, not both.
@@ -26,5 +27,6 @@ pub extern "C" fn pozkerrin_d_psi_points<'a>(
 ) -> u32
     ensures { (b : DPsiBoard) → Points (d_psi_rest (run_of (d_psi_of w.now k.now f.now) (d_psi_utd u.now t.now d.now b))) first.old first.new second.old second.new result }
 {
-    number_in(points_in_place(d_psi_of(w, k, f), first, second, u, t, d))
+    let s = d_psi_of(PenaltyRead { w, k, f });
+    number_in(points_in_place(s, first, second, u, t, d))
 }

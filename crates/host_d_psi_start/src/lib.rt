@@ -9,6 +9,7 @@ ghost use Rattle.psi_image.specs.PsiImage.{d_psi_step_of};
 use d_psi_starts::start_in_place;
 use factory::alm_factory::Sizes;
 use psi_image::d_psi::{keep_d_psi, tell_d_psi};
+use psi_image::lent::PenaltyLent;
 
 // A run that is begun at the lent slices, or its refusal.
 // host_c has a function of this name that calls this one: a crate is a library or a static library, not both.
@@ -29,6 +30,6 @@ pub extern "C" fn pozkerrin_d_psi_start(
 {
     let sizes = Sizes { n, n1, n2 };
     let r = start_in_place(sizes, at, xi, u, y);
-    keep_d_psi(r.state, w, k, f);
+    keep_d_psi(r.state, PenaltyLent { w, k, f });
     tell_d_psi(r.outcome, w)
 }

@@ -9,6 +9,7 @@ ghost use Rattle.psi_kinds.specs.PsiKinds.{reply_of};
 
 use factory::alm_factory::PsiVectors;
 use psi::answer_in_place;
+use psi_image::lent::{PenaltyLent, PenaltyRead};
 use psi_image::psi::{keep_psi, psi_of, tell_psi};
 use psi_kinds::reply_of;
 
@@ -29,9 +30,10 @@ pub extern "C" fn pozkerrin_psi_answer(
 ) -> u32
     ensures { (b : PsiBoard) → PsiAnswers (run_of (psi_of w.old k.old f.old) (psi_ytw y.now t.old work.old b)) (reply_of kind x code) v.now (gave (psi_step_of result w.new k.new f.new) (psi_ytw y.now t.new work.new b)) }
 {
-    let s = psi_of(w, k, f);
+    let s = psi_of(PenaltyRead { w, k, f });
     let a = reply_of(kind, x, code);
     let r = answer_in_place(s, a, v, PsiVectors { y, t, work });
-    keep_psi(r.state, w, k, f);
-    tell_psi(r.outcome, w, f)
+    let kept = PenaltyLent { w, k, f };
+    keep_psi(r.state, kept);
+    tell_psi(r.outcome, PenaltyLent { w, k, f })
 }

@@ -8,6 +8,7 @@ ghost use Rattle.factory.specs.FactoryRest.{psi_rest};
 ghost use Rattle.psi_image.specs.PsiImage.{psi_of};
 
 use image::told::number_in;
+use psi_image::lent::PenaltyRead;
 use psi_image::psi::psi_of;
 use psi_points::points_in_place;
 
@@ -25,5 +26,6 @@ pub extern "C" fn pozkerrin_psi_points<'a>(
 ) -> u32
     ensures { (b : PsiBoard) → Points (psi_rest (run_of (psi_of w.now k.now f.now) (psi_ut u.now t.now b))) first.old first.new second.old second.new result }
 {
-    number_in(points_in_place(psi_of(w, k, f), first, second, u, t))
+    let s = psi_of(PenaltyRead { w, k, f });
+    number_in(points_in_place(s, first, second, u, t))
 }

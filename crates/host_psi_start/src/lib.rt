@@ -7,6 +7,7 @@ ghost use Rattle.factory.specs.FactoryCalls.{PsiStarts};
 ghost use Rattle.psi_image.specs.PsiImage.{psi_step_of};
 
 use factory::alm_factory::Sizes;
+use psi_image::lent::PenaltyLent;
 use psi_image::psi::{keep_psi, tell_psi};
 use psi_starts::start_in_place;
 
@@ -29,6 +30,7 @@ pub extern "C" fn pozkerrin_psi_start(
 {
     let sizes = Sizes { n, n1, n2 };
     let r = start_in_place(sizes, at, xi, u, y);
-    keep_psi(r.state, w, k, f);
-    tell_psi(r.outcome, w, f)
+    let kept = PenaltyLent { w, k, f };
+    keep_psi(r.state, kept);
+    tell_psi(r.outcome, PenaltyLent { w, k, f })
 }

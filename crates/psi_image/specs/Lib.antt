@@ -1,2 +1,3 @@
+pub mod LentPsi
 pub mod PsiImage
 pub mod PsiStored

@@ -1,41 +1,43 @@
 // What the lent numbers of psi and of d_psi have alike: w and k.
-ghost use Rattle.std.specs.Prelude.{◌≡◌, get_or};
+ghost use Rattle.std.specs.Prelude.{◌≡◌};
 ghost use Rattle.panoc_core.specs.Told.{numbered};
 ghost use Rattle.psi_image.specs.PsiImage.{sizes_of, noted, Tells};
 
-use factory::alm_factory::{PsiQuestion, Sizes, State};
+use crate::places::{N, N1, N2, TOLD};
+use factory::alm_factory::{PsiQuestion, Sizes};
 use image::told;
 use panoc_core::outcome::Outcome;
-use psi_kinds::{Numbered, question_number};
+use psi_kinds::question_number;
 
 // The sizes that the lent numbers stand for: an impl of From would have to stand in the crate of the sizes, which knows no layout of C.
 pub fn sizes_of(k: &[usize; 3]) -> Sizes
     ensures { result ≡ sizes_of k.now }
 {
     Sizes {
-        n: k[0],
-        n1: k[1],
-        n2: k[2],
+        n: k[N],
+        n1: k[N1],
+        n2: k[N2],
     }
 }
 
-// The phase and the sizes of a run into the lent numbers, each at the place that C reads.
-pub fn keep<P: Numbered, V: Copy>(s: State<P, V>, w: &mut [u32; 2], k: &mut [usize; 3])
-    ensures phase { P.phase_of (get_or w.new 0 0) ≡ s.phase }
-    ensures sizes { sizes_of k.new ≡ s.sizes }
+// The sizes into the lent numbers, each at the place that C reads.
+pub fn keep_sizes(s: Sizes, k: &mut [usize; 3])
+    ensures { sizes_of k.new ≡ s }
 {
-    *w = [s.phase.number(), w[1]];
-    *k = [s.sizes.n, s.sizes.n1, s.sizes.n2];
+    k[N] = s.n;
+    k[N1] = s.n1;
+    k[N2] = s.n2;
 }
 
 // The number that a call tells: a question's, a refusal's, a code.
 fn note(number: u32, w: &mut [u32; 2])
     ensures { w.new ≡ noted number w.old }
 {
-    *w = [w[0], number];
+    w[TOLD] = number;
 }
 
 // What a call has told, but for the value of an end, into the lent numbers: C reads 0 at an end. Its kind is the result, a number since C reads it.
+// One match over what is told: each arm notes another number.
 pub fn tell<E: Copy>(o: Outcome<PsiQuestion, E>, w: &mut [u32; 2]) -> u32
     ensures { Tells (numbered o) result w.old w.new }
 {

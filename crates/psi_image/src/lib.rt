@@ -3,4 +3,6 @@
 
 mod both;
 pub mod d_psi;
+pub mod lent;
+mod places;
 pub mod psi;

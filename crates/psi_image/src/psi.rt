@@ -1,38 +1,45 @@
 // The small part of a run of psi in lent arrays.
 ghost use Rattle.std.specs.Prelude.{◌≡◌};
 ghost use Rattle.panoc_core.specs.Told.{numbered};
-ghost use Rattle.psi_image.specs.PsiImage.{psi_of, PsiTells};
+ghost use Rattle.psi_image.specs.LentPsi.{psi_state_read, psi_state_left, PsiTellsAt, SameSizes};
 
-use crate::both::{keep, sizes_of, tell};
+use crate::both::{keep_sizes, sizes_of, tell};
+use crate::lent::{PenaltyLent, PenaltyRead};
+use crate::places::{END_VALUE, PENALTY, PHASE, VALUE};
 use factory::alm_factory::{PsiOutcome, PsiPhase, PsiState};
 use psi_kinds::Numbered;
 
 // The small part of the run that the lent numbers stand for. No impl of From, whose ghost member would say what the clause says here.
-pub fn psi_of(w: &[u32; 2], k: &[usize; 3], f: &[f64; 3]) -> PsiState
-    ensures { result ≡ psi_of w.now k.now f.now }
+pub fn psi_of<'a>(run: PenaltyRead<'a, 3>) -> PsiState
+    ensures { result ≡ psi_state_read run.entry }
 {
+    let PenaltyRead { w, k, f } = run;
     PsiState {
-        phase: PsiPhase::of(w[0]),
+        phase: PsiPhase::of(w[PHASE]),
         sizes: sizes_of(k),
-        c: f[0],
-        value: f[1],
+        c: f[PENALTY],
+        value: f[VALUE],
     }
 }
 
 // The small part of a run into the lent numbers, each at the place that C reads.
-pub fn keep_psi(s: PsiState, w: &mut [u32; 2], k: &mut [usize; 3], f: &mut [f64; 3])
-    ensures { psi_of w.new k.new f.new ≡ s }
+pub fn keep_psi<'a>(s: PsiState, run: PenaltyLent<'a, 3>)
+    ensures { psi_state_left run.exit ≡ s }
 {
-    keep(s, w, k);
-    *f = [s.c, s.value, f[2]];
+    let PenaltyLent { w, k, f } = run;
+    w[PHASE] = s.phase.number();
+    keep_sizes(s.sizes, k);
+    *f = [s.c, s.value, f[END_VALUE]];
 }
 
 // What a call has told, into the lent numbers; its kind is the result, a number since C reads it.
-pub fn tell_psi(o: PsiOutcome, w: &mut [u32; 2], f: &mut [f64; 3]) -> u32
-    ensures { PsiTells (numbered o) result w.old f.old w.new f.new }
+pub fn tell_psi<'a>(o: PsiOutcome, run: PenaltyLent<'a, 3>) -> u32
+    ensures told { PsiTellsAt (numbered o) result run.entry run.exit }
+    ensures sizes { SameSizes run.entry run.exit }
 {
+    let PenaltyLent { w, f, .. } = run;
     if let PsiOutcome::Ended(value) = o {
-        *f = [f[0], f[1], value];
+        f[END_VALUE] = value;
     }
     tell(o, w)
 }
