@@ -14,7 +14,7 @@ use panoc_core::outcome::Refusal;
 
 // Beside that of psi, since the phases, the lent vectors and the second points are others. The three vectors are read alone: a struct of them
 // would shorten no clause, and each of the two callers would have to make it.
-// The points of the question of a run in place, into first and, for a product, second.
+// The points of the question of a run in place, into first and, for a product, second. One match over the phases: the slices are the table itself.
 #[tactic(auto, using(factory::specs::FactoryLaws::sound_n, factory::specs::FactoryLaws::sound_n1, factory::specs::FactoryLaws::sound_n2, factory::specs::FactoryRuns::points_over, factory::specs::FactoryRuns::points_wild), unfolding(factory::specs::FactoryRest::d_psi_resume))]
 pub fn points_in_place<'a>(
     s: DPsiState,

@@ -4,7 +4,7 @@ use transcript_lines::output::Line;
 use transcript_psi::{d_psi_told, psi_told};
 use transcript_state::{Open, Play};
 
-// An answer to the open run, with the places that are lent.
+// An answer to the open run, with the places that are lent. One match over the kinds of run: each arm is another call.
 pub fn answered(play: &mut Play, a: Reply, v: &[f64]) -> Line {
     match play.open {
         Open::Inner(run) => {

@@ -1,4 +1,5 @@
-// A line that is printed, and what several kinds of runs print alike.
+// A line that is printed, and what several kinds of runs print alike. That a word has at most 50 bytes is a clause and no type: each is a literal,
+// of which a type would be made at each call by the same proof; that a closure may be called is a clause wherever one is.
 ghost use Rattle.arrayvec.specs.ArrayVec.{array_vec_len};
 ghost use Rattle.std.specs.Prelude.{◌≤◌, length};
 
@@ -48,7 +49,7 @@ pub fn asked<P: FnOnce(&mut [f64], &mut [f64]) -> Result<(), Refusal>>(
     put_points(word, &p[..n], then, &q[..m])
 }
 
-// What a call gave; `asked` gives the line of a question, `ended` that of an end.
+// What a call gave; `asked` gives the line of a question, `ended` that of an end. One match over what was given: each arm is another line.
 pub fn told<Q: Drop, E: Drop, A: FnOnce(Q) -> Line + Drop, T: FnOnce(E) -> Line + Drop>(
     outcome: Outcome<Q, E>,
     asked: A,
