@@ -22,7 +22,8 @@ pub fn psi_of<'a>(run: PenaltyRead<'a, 3>) -> PsiState
     }
 }
 
-// The small part of a run into the lent numbers, each at the place that C reads.
+// The small part of a run into the lent numbers, each at the place that C reads. f is written whole: of writes at its places the proof did not
+// close, since it does not learn there how long f is.
 pub fn keep_psi<'a>(s: PsiState, run: PenaltyLent<'a, 3>)
     ensures { psi_state_left run.exit ≡ s }
 {
