@@ -1,4 +1,5 @@
-// What the transcript program prints of a call of psi or of d_psi, whose questions are alike.
+// What the transcript program prints of a call of psi or of d_psi, whose questions are alike. That `points` may be called is a clause, as in
+// transcript_lines::output.
 #![tactic(auto)]
 
 use factory::alm_factory::{DPsiAnswered, PsiAnswered, PsiQuestion, Sizes};
