@@ -11,7 +11,7 @@ ghost use Rattle.image.specs.LentRun.{small, gives, places_in, held, left, Only,
 use image::kinds::phase_of;
 use image::lent::{CostVectors, Lent, Vectors};
 use image::places::PHASE;
-use image_moves::fail;
+use image_moves::to;
 use panoc_core::panoc_cache::{Outcome, Phase, Reply};
 use panoc_doubling::on_doubled_project;
 use panoc_estimate::{on_gradient, on_shifted};
@@ -82,6 +82,6 @@ pub fn take_lent<'a>(a: Reply, v: &[f64], run: Lent<'a>, at: Vectors<'a>) -> Out
         Reply::Vector => on_vector(v, run, at),
         Reply::Yes => on_decision(true, run, at),
         Reply::No => on_decision(false, run, at),
-        Reply::Failure(code) => fail(code, run.w),
+        Reply::Failure(code) => to(Phase::Over, Outcome::Failed(code), run.w),
     }
 }

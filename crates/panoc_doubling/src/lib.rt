@@ -7,7 +7,7 @@ ghost use Rattle.image.specs.LentRun.{small, gives, phase_in, places_in, held, l
 
 use image::lent::{CostVectors, Lent, Vectors};
 use image::places::{COST, DONE, GAMMA, LEAST, N, TAU};
-use image_moves::{ask, stop};
+use image_moves::to;
 use image_puts::{put_forget, put_norms, put_rounds, put_search};
 use panoc_core::lipschitz_estimator::lipschitz_check_rhs;
 use panoc_core::outcome::Refusal;
@@ -21,7 +21,7 @@ pub fn on_half_cost<'a>(x: f64, run: Lent<'a>, at: CostVectors<'a>) -> Outcome
     ensures vectors { SameResidual at.entry at.exit }
 {
     if !numeric::is_finite(x) {
-        return stop(Refusal::HalfCost, run.w);
+        return to(Phase::Over, Outcome::Refused(Refusal::HalfCost), run.w);
     }
     put_forget(run.k[DONE] == 0, run.w);
     put_rounds(10, run.k);
@@ -37,7 +37,7 @@ pub fn on_doubled_project<'a>(v: &[f64], run: Lent<'a>, at: Vectors<'a>) -> Outc
     ensures floats { SameFloats run.entry run.exit }
 {
     vector_copies::take_into(v, at.half);
-    ask(Phase::DoubledCost, Question::Cost, run.w)
+    to(Phase::DoubledCost, Outcome::Asked(Question::Cost), run.w)
 }
 
 // COST while doubling is x.
@@ -46,7 +46,7 @@ pub fn on_doubled_cost<'a>(x: f64, run: Lent<'a>, at: CostVectors<'a>) -> Outcom
     ensures { (b : Board) → Takes (small run.entry) (costs_held at.entry b) (Reply.Number x) [] (gives result run.exit) (costs_left at.exit b) }
 {
     if !numeric::is_finite(x) {
-        return stop(Refusal::DoubledCost, run.w);
+        return to(Phase::Over, Outcome::Refused(Refusal::DoubledCost), run.w);
     }
     let sums = residual_sums::residual_into(at.u, at.half, at.gradient, at.fpr, run.k[N]);
     let rhs = lipschitz_check_rhs(run.f[COST], run.f[GAMMA], sums.norm, sums.product);

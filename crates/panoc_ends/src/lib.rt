@@ -12,7 +12,7 @@ ghost use Rattle.image.specs.LentRun.{small, gives, phase_in, SameCounts, SameFl
 use image::kinds::status_of;
 use image::lent::Lent;
 use image::places::{DONE, LEAST, STATUS};
-use image_moves::{end, stop};
+use image_moves::to;
 use panoc_core::outcome::Refusal;
 use panoc_core::panoc_cache::{ExitStatus, InnerIterations, Outcome, Phase, Reply, SolverStatus};
 
@@ -38,7 +38,7 @@ pub fn on_last_cost<'a>(x: f64, run: Lent<'a>) -> Outcome
 {
     let Lent { w, k, f } = run;
     if !numeric::is_finite(x) {
-        return stop(Refusal::LastCost, w);
+        return to(Phase::Over, Outcome::Refused(Refusal::LastCost), w);
     }
     let status = SolverStatus {
         exit_status: status_of(w[STATUS]),
@@ -46,5 +46,5 @@ pub fn on_last_cost<'a>(x: f64, run: Lent<'a>) -> Outcome
         norm_fpr: f[LEAST],
         cost_value: x,
     };
-    end(status, w)
+    to(Phase::Over, Outcome::Ended(status), w)
 }

@@ -7,7 +7,7 @@ ghost use Rattle.image.specs.LentRun.{small, gives, phase_in, places_in, held, l
 
 use image::lent::{Lent, Vectors};
 use image::places::{COST, N, NORM_H};
-use image_moves::{ask, stop};
+use image_moves::to;
 use image_puts::{put_cost, put_gammas, put_norm_h};
 use panoc_core::lipschitz_estimator::{both_finite, gamma_of, sigma_of};
 use panoc_core::outcome::Refusal;
@@ -20,7 +20,7 @@ pub fn on_cost<'a>(x: f64, run: Lent<'a>) -> Outcome
     ensures counts { SameCounts run.entry run.exit }
 {
     put_cost(x, run.f);
-    ask(Phase::Gradient, Question::Gradient, run.w)
+    to(Phase::Gradient, Outcome::Asked(Question::Gradient), run.w)
 }
 
 // GRADIENT at u is v. The shift of the estimate stays in u.
@@ -33,7 +33,7 @@ pub fn on_gradient<'a>(v: &[f64], run: Lent<'a>, at: Vectors<'a>) -> Outcome
     vector_copies::take_into(v, at.gradient);
     let norm_h = shift_updates::shift_into(at.u, run.k[N]);
     put_norm_h(norm_h, run.f);
-    ask(Phase::Shifted, Question::Gradient, run.w)
+    to(Phase::Shifted, Outcome::Asked(Question::Gradient), run.w)
 }
 
 // GRADIENT at the shifted u is v.
@@ -52,7 +52,7 @@ pub fn on_shifted<'a>(v: &[f64], run: Lent<'a>, at: Vectors<'a>) -> Outcome
     } = at;
     let n = k[N];
     if !both_finite(f[COST], gradient, n) {
-        return stop(Refusal::FirstCost, w);
+        return to(Phase::Over, Outcome::Refused(Refusal::FirstCost), w);
     }
     vector_copies::take_into(v, step);
     let change = matrix_operations::norm2_diff(step, gradient, n);
@@ -61,5 +61,5 @@ pub fn on_shifted<'a>(v: &[f64], run: Lent<'a>, at: Vectors<'a>) -> Outcome
     let sigma = sigma_of(gamma);
     vector_updates::less_times_into(u, gamma, gradient, step, n);
     put_gammas(lipschitz, gamma, sigma, f);
-    ask(Phase::Project, Question::Project, w)
+    to(Phase::Project, Outcome::Asked(Question::Project), w)
 }

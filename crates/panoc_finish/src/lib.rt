@@ -10,7 +10,7 @@ ghost use Rattle.image.specs.LentRun.{small, small_read, gives, held, left, norm
 
 use image::lent::{Lent, LentRead, Vectors};
 use image::places::{AKKT, GAMMA, HAS_AKKT, LEAST, N, NORM, TOLERANCE};
-use image_moves::{ask, stop};
+use image_moves::to;
 use image_puts::put_norms;
 use panoc_core::outcome::Refusal;
 use panoc_core::panoc_cache::{Outcome, Phase, Question, cache_best_half_step};
@@ -28,9 +28,9 @@ pub fn finish<'a>(norm: f64, run: Lent<'a>, at: Vectors<'a>) -> Outcome
     let least = cache_best_half_step(norm, f[LEAST], half, best, n);
     put_norms(f[NORM], least, f);
     if !matrix_operations::is_finite(u, n) {
-        return stop(Refusal::Plan, w);
+        return to(Phase::Over, Outcome::Refused(Refusal::Plan), w);
     }
-    ask(Phase::LastCost, Question::Cost, w)
+    to(Phase::LastCost, Outcome::Asked(Question::Cost), w)
 }
 
 // The two tests: the norm against the tolerance, and the AKKT residual against its own where one is set. The vectors that they read are lent

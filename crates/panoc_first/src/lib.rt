@@ -9,7 +9,7 @@ ghost use Rattle.image.specs.LentRun.{small, gives, phase_in, places_in, held, l
 
 use image::lent::{Lent, Vectors};
 use image::places::{COST, DONE, GAMMA, N};
-use image_moves::{ask, stop};
+use image_moves::to;
 use image_puts::put_cost;
 use panoc_core::outcome::Refusal;
 use panoc_core::panoc_cache::{Outcome, Phase, Question, Reply};
@@ -24,7 +24,7 @@ pub fn on_direction<'a>(v: &[f64], run: Lent<'a>, at: Vectors<'a>) -> Outcome
     if run.k[DONE] == 0 {
         let Vectors { u, half, .. } = at;
         vector_copies::copy_into(half, u, run.k[N]);
-        return ask(Phase::FirstCost, Question::Cost, run.w);
+        return to(Phase::FirstCost, Outcome::Asked(Question::Cost), run.w);
     }
     linesearch(v, run, at)
 }
@@ -36,7 +36,11 @@ pub fn on_first_cost<'a>(x: f64, run: Lent<'a>) -> Outcome
     ensures counts { SameCounts run.entry run.exit }
 {
     put_cost(x, run.f);
-    ask(Phase::FirstGradient, Question::Gradient, run.w)
+    to(
+        Phase::FirstGradient,
+        Outcome::Asked(Question::Gradient),
+        run.w,
+    )
 }
 
 // GRADIENT at the first iterate is v. As panoc_search::on_tried_gradient, but of u, with another phase and refusal, and so another law of its phase.
@@ -56,7 +60,7 @@ pub fn on_first_gradient<'a>(v: &[f64], run: Lent<'a>, at: Vectors<'a>) -> Outco
     } = at;
     let finite = point_updates::gradient_into(v, f[GAMMA], u, gradient, step);
     if !(finite & numeric::is_finite(f[COST])) {
-        return stop(Refusal::FirstIterate, w);
+        return to(Phase::Over, Outcome::Refused(Refusal::FirstIterate), w);
     }
-    ask(Phase::FirstProject, Question::Project, w)
+    to(Phase::FirstProject, Outcome::Asked(Question::Project), w)
 }

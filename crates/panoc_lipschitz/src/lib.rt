@@ -8,7 +8,7 @@ ghost use Rattle.image.specs.LentRun.{small, gives, SameCounts, steps_held, step
 use image::kinds::flag_of;
 use image::lent::{CostVectors, Lent};
 use image::places::{FORGET, GAMMA, LIPSCHITZ, N, RHS, ROUNDS, SIGMA};
-use image_moves::ask;
+use image_moves::to;
 use image_puts::{put_gammas, put_rounds};
 use panoc_core::lipschitz_estimator::{exceeds, sigma_of};
 use panoc_core::panoc_cache::{Outcome, Phase, Question};
@@ -22,7 +22,11 @@ pub fn ask_direction<'a>(run: Lent<'a>) -> Outcome
     let Lent { w, f, .. } = run;
     let sigma = sigma_of(f[GAMMA]);
     put_gammas(f[LIPSCHITZ], f[GAMMA], sigma, f);
-    ask(Phase::Direction, Question::Direction(flag_of(w[FORGET])), w)
+    to(
+        Phase::Direction,
+        Outcome::Asked(Question::Direction(flag_of(w[FORGET]))),
+        w,
+    )
 }
 
 // The doubling: another round while the half step's cost exceeds its ceiling, which is kept among the numbers, else DIRECTION.
@@ -44,5 +48,5 @@ pub fn update_lipschitz_constant<'a>(cost: f64, run: Lent<'a>, at: CostVectors<'
     vector_updates::less_times_into(at.u, gamma, at.gradient, at.step, k[N]);
     put_gammas(lipschitz, gamma, f[SIGMA], f);
     put_rounds(rounds - 1, k);
-    ask(Phase::DoubledProject, Question::Project, w)
+    to(Phase::DoubledProject, Outcome::Asked(Question::Project), w)
 }

@@ -8,7 +8,7 @@ ghost use Rattle.image.specs.LentRun.{small, gives, held, left, ResidualAt, Only
 
 use image::lent::{Lent, Vectors};
 use image::places::{DONE, LEFT, LIMITED};
-use image_moves::ask;
+use image_moves::to;
 use image_puts::{put_status, put_steps};
 use panoc_core::panoc_cache::{ExitStatus, Outcome, Phase, Question};
 use panoc_ends::standing;
@@ -29,7 +29,7 @@ pub fn next_step<'a>(norm: f64, product: f64, run: Lent<'a>, at: Vectors<'a>) ->
     let done = run.k[DONE] + 1;
     put_steps(left - 1, done, run.k);
     if run.w[LIMITED] != 0 {
-        return ask(Phase::Time, Question::Time, run.w);
+        return to(Phase::Time, Outcome::Asked(Question::Time), run.w);
     }
     put_status(standing(left - 1, true), run.w);
     step(norm, product, run, at)

@@ -9,7 +9,7 @@ ghost use Rattle.image.specs.LentRun.{small, gives, phase_in, places_in, held, l
 
 use image::lent::{Lent, Vectors};
 use image::places::{COST, GAMMA, N, NORM, RHS, ROUNDS, SIGMA, TAU};
-use image_moves::{ask, stop};
+use image_moves::to;
 use image_puts::{put_cost, put_rounds, put_search};
 use panoc_core::lipschitz_estimator::envelope;
 use panoc_core::outcome::Refusal;
@@ -42,7 +42,7 @@ pub fn linesearch<'a>(v: &[f64], run: Lent<'a>, at: Vectors<'a>) -> Outcome
     let rhs = value - f[SIGMA] * f[NORM] * f[NORM];
     put_search(1.0, rhs, f);
     put_rounds(10, k);
-    ask(Phase::TriedCost, Question::Cost, w)
+    to(Phase::TriedCost, Outcome::Asked(Question::Cost), w)
 }
 
 // COST at a candidate is x.
@@ -52,7 +52,11 @@ pub fn on_tried_cost<'a>(x: f64, run: Lent<'a>) -> Outcome
     ensures counts { SameCounts run.entry run.exit }
 {
     put_cost(x, run.f);
-    ask(Phase::TriedGradient, Question::Gradient, run.w)
+    to(
+        Phase::TriedGradient,
+        Outcome::Asked(Question::Gradient),
+        run.w,
+    )
 }
 
 // GRADIENT at a candidate is v.
@@ -73,9 +77,9 @@ pub fn on_tried_gradient<'a>(v: &[f64], run: Lent<'a>, at: Vectors<'a>) -> Outco
     } = at;
     let finite = point_updates::gradient_into(v, f[GAMMA], plus, gradient, step);
     if !(finite & numeric::is_finite(f[COST])) {
-        return stop(Refusal::Candidate, w);
+        return to(Phase::Over, Outcome::Refused(Refusal::Candidate), w);
     }
-    ask(Phase::TriedProject, Question::Project, w)
+    to(Phase::TriedProject, Outcome::Asked(Question::Project), w)
 }
 
 // Whether another candidate is tried: this one's envelope exceeds what it is held to, and there are rounds left.
@@ -103,5 +107,5 @@ pub fn try_again<'a>(run: Lent<'a>, at: Vectors<'a>) -> Outcome
     candidate_updates::candidate_into(tau, u, fpr, direction, plus, k[N]);
     put_search(tau, f[RHS], f);
     put_rounds(k[ROUNDS] - 1, k);
-    ask(Phase::TriedCost, Question::Cost, w)
+    to(Phase::TriedCost, Outcome::Asked(Question::Cost), w)
 }

@@ -8,7 +8,7 @@ ghost use Rattle.image.specs.LentRun.{small, gives, held, left, ResidualAt, Only
 
 use image::lent::{Lent, LentRead, Vectors};
 use image::places::{COST, DONE, GAMMA, LEAST, N, TAU};
-use image_moves::ask;
+use image_moves::to;
 use image_puts::{put_norms, put_search};
 use panoc_core::lipschitz_estimator::lipschitz_check_rhs;
 use panoc_core::panoc_cache::{
@@ -60,5 +60,5 @@ pub fn step<'a>(norm: f64, product: f64, run: Lent<'a>, at: Vectors<'a>) -> Outc
     }
     let rhs = lipschitz_check_rhs(f[COST], f[GAMMA], norm, product);
     put_search(f[TAU], rhs, f);
-    ask(Phase::HalfCost, Question::Cost, w)
+    to(Phase::HalfCost, Outcome::Asked(Question::Cost), w)
 }

@@ -15,4 +15,4 @@ pub returns : goal.returns
 returns c = λ b. rw c.update_lipschitz_constant.ensures.vectors (doubled_cost_goes (small c.args.run) (costs_held c.args.at b) c.requires.0 _ _ _ _ _ _ _ c.requires.1 (sym c.is_finite.ensures ∙ c.if-not-is_finite.false) c.residual_into-sums.ensures.left c.residual_into-sums.ensures.size c.residual_into-sums.ensures.product c.lipschitz_check_rhs-rhs.ensures (doubled_doubles c.args.run.w.now _ c.args.run.k.now c.args.run.f.now (five c.args.at.u.now c.args.at.gradient.now c.args.at.step.now c.args.at.half.now _ b) _ _ _ _ _ _ _ c.put_forget.ensures c.put_norms.ensures c.put_search.ensures (c.update_lipschitz_constant.ensures.goes (set_half c.args.at.half.now (set_fpr c.residual_into-sums.new.r b)))))
 
 pub returns-then-not-is_finite : goal.returns-then-not-is_finite
-returns-then-not-is_finite c = λ b. doubled_cost_stops (small c.args.run) (costs_held c.args.at b) c.requires.0 _ _ _ c.requires.1 (sym c.is_finite.ensures ∙ c.if-not-is_finite.true) (step_as _ _ _ _ c.args.run.k.now c.args.run.k.now c.args.run.f.now c.args.run.f.now c.stop.ensures.outcome c.stop.ensures.moved refl refl)
+returns-then-not-is_finite c = λ b. doubled_cost_stops (small c.args.run) (costs_held c.args.at b) c.requires.0 _ _ _ c.requires.1 (sym c.is_finite.ensures ∙ c.if-not-is_finite.true) (step_as _ _ _ _ c.args.run.k.now c.args.run.k.now c.args.run.f.now c.args.run.f.now c.to.ensures.outcome c.to.ensures.moved refl refl)

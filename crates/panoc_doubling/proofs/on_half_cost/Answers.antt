@@ -14,4 +14,4 @@ pub returns-clause-goes : goal.returns-clause-goes
 returns-clause-goes c = λ b. half_goes (small c.args.run) (steps_held c.args.at b) c.requires.0 _ _ _ c.requires.1 (sym c.is_finite.ensures ∙ c.if-not-is_finite.false) (half_doubles c.args.run.w.now _ c.args.run.k.now c.args.run.f.now (steps_held c.args.at b) _ _ _ _ _ c.put_forget.ensures refl c.put_rounds.ensures (c.update_lipschitz_constant.ensures.goes b))
 
 pub returns-then-not-is_finite-clause-goes : goal.returns-then-not-is_finite-clause-goes
-returns-then-not-is_finite-clause-goes c = λ b. half_stops (small c.args.run) (steps_held c.args.at b) c.requires.0 _ _ _ c.requires.1 (sym c.is_finite.ensures ∙ c.if-not-is_finite.true) (step_as _ _ _ _ c.args.run.k.now c.args.run.k.now c.args.run.f.now c.args.run.f.now c.stop.ensures.outcome c.stop.ensures.moved refl refl)
+returns-then-not-is_finite-clause-goes c = λ b. half_stops (small c.args.run) (steps_held c.args.at b) c.requires.0 _ _ _ c.requires.1 (sym c.is_finite.ensures ∙ c.if-not-is_finite.true) (step_as _ _ _ _ c.args.run.k.now c.args.run.k.now c.args.run.f.now c.args.run.f.now c.to.ensures.outcome c.to.ensures.moved refl refl)

@@ -9,7 +9,7 @@ pub linesearch-requires : goal.linesearch-requires
 linesearch-requires c = (c.requires.0, c.requires.2)
 
 pub returns-then-run-eq0-clause-goes : goal.returns-then-run-eq0-clause-goes
-returns-then-run-eq0-clause-goes c = λ b. direction_first (small c.args.run) (Over along (held c.args.at) b) c.requires.0 _ _ _ _ _ c.requires.1 c.if-run-eq0.true c.copy_into.ensures (step_as _ _ _ _ c.args.run.k.now c.args.run.k.now c.args.run.f.now c.args.run.f.now c.ask.ensures.outcome c.ask.ensures.moved refl refl)
+returns-then-run-eq0-clause-goes c = λ b. direction_first (small c.args.run) (Over along (held c.args.at) b) c.requires.0 _ _ _ _ _ c.requires.1 c.if-run-eq0.true c.copy_into.ensures (step_as _ _ _ _ c.args.run.k.now c.args.run.k.now c.args.run.f.now c.args.run.f.now c.to.ensures.outcome c.to.ensures.moved refl refl)
 
 pub returns-clause-goes : goal.returns-clause-goes
 returns-clause-goes c = λ b. direction_later (small c.args.run) (Over along (held c.args.at) b) c.requires.0 _ _ _ c.requires.1 c.if-run-eq0.false (c.linesearch.ensures.goes b)

@@ -11,7 +11,7 @@ pub returns-then-rounds-eq0-clause-goes : goal.returns-then-rounds-eq0-clause-go
 returns-then-rounds-eq0-clause-goes c = λ b. doubling_none (small c.args.run) (steps_held c.args.at b) c.requires _ _ _ c.if-rounds-eq0.true (c.ask_direction.ensures.goes (steps_held c.args.at b))
 
 pub returns-clause-goes : goal.returns-clause-goes
-returns-clause-goes c = λ b. doubling_goes (small c.args.run) (steps_held c.args.at b) c.requires _ _ _ _ _ _ (omega (arith, c.if-rounds-eq0.false)) (sym c.exceeds.ensures ∙ c.if-not-exceeds.false) (ap (λ (z : Float). mul binary64 (get_or c.args.run.f.now 1 nan) z) two_bits) (ap (λ (z : Float). div binary64 (get_or c.args.run.f.now 2 nan) z) two_bits) c.less_times_into.ensures (step_as _ _ _ _ _ _ _ _ c.ask.ensures.outcome c.ask.ensures.moved c.put_rounds.ensures c.put_gammas.ensures)
+returns-clause-goes c = λ b. doubling_goes (small c.args.run) (steps_held c.args.at b) c.requires _ _ _ _ _ _ (omega (arith, c.if-rounds-eq0.false)) (sym c.exceeds.ensures ∙ c.if-not-exceeds.false) (ap (λ (z : Float). mul binary64 (get_or c.args.run.f.now 1 nan) z) two_bits) (ap (λ (z : Float). div binary64 (get_or c.args.run.f.now 2 nan) z) two_bits) c.less_times_into.ensures (step_as _ _ _ _ _ _ _ _ c.to.ensures.outcome c.to.ensures.moved c.put_rounds.ensures c.put_gammas.ensures)
 
 pub returns-then-not-exceeds-clause-goes : goal.returns-then-not-exceeds-clause-goes
 returns-then-not-exceeds-clause-goes c = λ b. doubling_stays (small c.args.run) (steps_held c.args.at b) c.requires _ _ _ c.if-rounds-eq0.false (sym c.exceeds.ensures ∙ c.if-not-exceeds.true) (c.ask_direction-then-not-exceeds.ensures.goes (steps_held c.args.at b))

@@ -22,7 +22,7 @@ overflow_add-done c = omega (arith, sound_left (small c.args.run) c.requires.0, 
 
 pub returns-then-run-ne0-clause-goes : goal.returns-then-run-ne0-clause-goes
 returns-then-run-ne0-clause-goes c =
-    λ b. rw (c.ask.ensures.outcome, c.ask.ensures.moved, c.put_steps.ensures) (next_asks (small c.args.run) (Over six (held c.args.at) b) _ _ c.requires.0 (omega (arith, c.if-left-eq0.false)) (ap not (ne_eqb _ _ c.if-run-ne0.true)) refl)
+    λ b. rw (c.to.ensures.outcome, c.to.ensures.moved, c.put_steps.ensures) (next_asks (small c.args.run) (Over six (held c.args.at) b) _ _ c.requires.0 (omega (arith, c.if-left-eq0.false)) (ap not (ne_eqb _ _ c.if-run-ne0.true)) refl)
 
 pub step-requires : goal.step-requires
 unfolding sound

@@ -9,4 +9,4 @@ use Rattle.panoc_search.specs.Moves.{again}
 use Rattle.panoc_search.proofs.try_again.Goals as goal
 
 pub returns-clause-goes : goal.returns-clause-goes
-returns-clause-goes c = λ b. again_asks (small c.args.run) (Over again (held c.args.at) b) c.requires.0 _ _ _ _ (omega (arith, c.requires.1)) (ap (λ (z : Float). div binary64 (get_or c.args.run.f.now 6 nan) z) two_bits) c.candidate_into.ensures (step_as _ _ _ _ _ _ _ _ c.ask.ensures.outcome c.ask.ensures.moved c.put_rounds.ensures c.put_search.ensures) _
+returns-clause-goes c = λ b. again_asks (small c.args.run) (Over again (held c.args.at) b) c.requires.0 _ _ _ _ (omega (arith, c.requires.1)) (ap (λ (z : Float). div binary64 (get_or c.args.run.f.now 6 nan) z) two_bits) c.candidate_into.ensures (step_as _ _ _ _ _ _ _ _ c.to.ensures.outcome c.to.ensures.moved c.put_rounds.ensures c.put_search.ensures) _

@@ -17,4 +17,4 @@ returns-then-ends-clause-goes c =
 
 pub returns-clause-goes : goal.returns-clause-goes
 returns-clause-goes c =
-    λ b. rw (c.ask.ensures.outcome, c.ask.ensures.moved, c.put_search.ensures, c.put_norms.ensures) (step_asks (small c.args.run) (Over six (held c.args.at) b) c.requires.0 _ _ _ _ _ c.cache_previous_gradient.ensures c.requires.1.0 c.requires.1.1 c.cache_best_half_step-least.ensures _ _ (c.exit_condition-ends.ensures _) _ _ c.requires.1.2 (rw c.put_norms.ensures at c.lipschitz_check_rhs-rhs.ensures) c.if-ends.false refl)
+    λ b. rw (c.to.ensures.outcome, c.to.ensures.moved, c.put_search.ensures, c.put_norms.ensures) (step_asks (small c.args.run) (Over six (held c.args.at) b) c.requires.0 _ _ _ _ _ c.cache_previous_gradient.ensures c.requires.1.0 c.requires.1.1 c.cache_best_half_step-least.ensures _ _ (c.exit_condition-ends.ensures _) _ _ c.requires.1.2 (rw c.put_norms.ensures at c.lipschitz_check_rhs-rhs.ensures) c.if-ends.false refl)

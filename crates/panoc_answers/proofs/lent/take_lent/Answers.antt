@@ -29,4 +29,4 @@ pub returns-in-No : goal.returns-in-No
 returns-in-No c = rw (c.on_decision-in-No.ensures.vectors.1, c.on_decision-in-No.ensures.vectors.4, c.on_decision-in-No.ensures.vectors.7) (took_decision (small c.args.run) (held c.args.at) _ _ _ _ false c.in-No.is (c.on_decision-in-No.ensures.goes (held c.args.at)))
 
 pub returns-in-Failure : goal.returns-in-Failure
-returns-in-Failure c = rw (c.fail.ensures.outcome, c.fail.ensures.moved) (took_failure (small c.args.run) (held c.args.at) _ _ _ _ c.in-Failure.is (refusal_of (small c.args.run) _ c.in-Failure.is c.requires) refl)
+returns-in-Failure c = rw (c.to.ensures.outcome, c.to.ensures.moved) (took_failure (small c.args.run) (held c.args.at) _ _ _ _ c.in-Failure.is (refusal_of (small c.args.run) _ c.in-Failure.is c.requires) refl)
