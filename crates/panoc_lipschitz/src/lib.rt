@@ -36,10 +36,7 @@ pub fn update_lipschitz_constant<'a>(cost: f64, run: Lent<'a>, at: CostVectors<'
     ensures vectors { SameResidual at.entry at.exit }
 {
     let rounds = run.k[ROUNDS];
-    if rounds == 0 {
-        return ask_direction(run);
-    }
-    if !exceeds(run.f[RHS], run.f[LIPSCHITZ], cost) {
+    if rounds == 0 || !exceeds(run.f[RHS], run.f[LIPSCHITZ], cost) {
         return ask_direction(run);
     }
     let Lent { w, k, f } = run;

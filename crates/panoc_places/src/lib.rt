@@ -37,21 +37,21 @@ pub fn second_places_at(n: usize, phase: Phase) -> usize
     }
 }
 
-// The first point of the question that the run waits with.
+// The first point of the question that the run waits with. Its vector by one match over the enum, plainer than a table.
 pub fn first_point<'a>(s: Solve, first: &mut [f64], at: PointVectors<'a>)
     requires { (s.set.n ≤ 64) × (length first.old ≡ first_places s.set.n s.phase) }
     ensures { (b : Board) → first.new ≡ first_at (run_of s (held at.entry b)) s.phase first.old }
 {
-    match s.phase {
+    let v = match s.phase {
         Phase::Cost | Phase::Gradient | Phase::Shifted | Phase::FirstCost | Phase::FirstGradient =>
-            vector_copies::give(at.u, first),
-        Phase::Project | Phase::DoubledProject | Phase::FirstProject | Phase::TriedProject => {
-            vector_copies::give(at.step, first)
-        }
-        Phase::HalfCost | Phase::DoubledCost => vector_copies::give(at.half, first),
-        Phase::Direction => vector_copies::give(at.fpr, first),
-        Phase::TriedCost | Phase::TriedGradient => vector_copies::give(at.plus, first),
-        Phase::LastCost => vector_copies::give(at.best, first),
-        Phase::Time | Phase::Over => {}
-    }
+            at.u,
+        Phase::Project | Phase::DoubledProject | Phase::FirstProject | Phase::TriedProject =>
+            at.step,
+        Phase::HalfCost | Phase::DoubledCost => at.half,
+        Phase::Direction => at.fpr,
+        Phase::TriedCost | Phase::TriedGradient => at.plus,
+        Phase::LastCost => at.best,
+        Phase::Time | Phase::Over => return,
+    };
+    vector_copies::give(v, first);
 }
