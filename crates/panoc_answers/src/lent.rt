@@ -1,4 +1,5 @@
 // An answer to a lent run, by the kind of reply and then by the phase: each arm is another handler, so a table is no plainer.
+// That an answer is of the kind asked, and has its places, are clauses and no invariants: image::lent says why.
 ghost use Rattle.std.specs.Prelude.{◌≡◌, ◌∷◌, true, [], length};
 ghost use Rattle.std.proofs.Math.Option.{some};
 ghost use Rattle.model.specs.Process.{Kind};

@@ -1,4 +1,5 @@
 // Which handler takes an answer: over lent numbers, and by value.
+// That nothing refuses an answer is a clause and no invariant: image::lent says why.
 #![tactic(auto)]
 
 ghost use Rattle.std.specs.Prelude.{◌≡◌, true, length};

@@ -1,4 +1,5 @@
 // A candidate that is taken.
+// That a run is sound is a clause and no invariant: image::lent says why.
 #![tactic(auto, using(panoc_core::specs::Laws::sound_n))]
 
 ghost use Rattle.std.specs.Prelude.{◌∷◌, []};

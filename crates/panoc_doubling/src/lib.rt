@@ -1,4 +1,5 @@
 // The answers at the half step and while doubling.
+// That a run is sound, and that an answer has its places, are clauses and no invariants: image::lent says why.
 #![tactic(auto, using(panoc_core::specs::Laws::sound_n))]
 
 ghost use Rattle.std.specs.Prelude.{◌≡◌, ◌∷◌, [], length};

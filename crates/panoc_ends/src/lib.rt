@@ -1,4 +1,5 @@
 // Which end stands for a step, and the last COST.
+// That a run is sound is a clause and no invariant: image::lent says why.
 #![tactic(auto)]
 
 ghost use Rattle.std.specs.Prelude.{◌≡◌, []};

@@ -1,4 +1,5 @@
 // The start of a solve: the first cost, the gradient at u, and the estimate of the Lipschitz constant, which leaves u shifted.
+// That a run is sound, and that an answer has its places, are clauses and no invariants: image::lent says why.
 #![tactic(auto, using(panoc_core::specs::Laws::sound_n))]
 
 ghost use Rattle.std.specs.Prelude.{◌≡◌, ◌∷◌, [], length};

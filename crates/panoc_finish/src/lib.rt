@@ -1,4 +1,5 @@
 // The tests of a step, and what follows the last.
+// That a run is sound is a clause and no invariant: image::lent says why.
 #![tactic(auto, using(panoc_core::specs::Laws::sound_n))]
 
 ghost use Rattle.std.specs.Prelude.{◌≡◌, ◌≤◌, ◌∷◌, [], Float, get_or};

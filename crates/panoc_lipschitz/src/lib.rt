@@ -1,4 +1,5 @@
 // The doubling of L, and the question for a DIRECTION.
+// That a run is sound is a clause and no invariant: image::lent says why.
 #![tactic(auto, using(panoc_core::specs::Laws::sound_n))]
 
 ghost use Rattle.panoc_core.specs.Board.{Board, Sound};

@@ -1,4 +1,6 @@
 // The next step, or what follows the last.
+// That a run is sound is a clause and no invariant: image::lent says why.
+// That norm and product are the residual's is a clause too: its vector is lent, and a record of the two could not hold it.
 #![tactic(auto)]
 
 ghost use Rattle.std.specs.Prelude.{◌∷◌, []};

@@ -1,4 +1,5 @@
 // A number that was asked for, by the phase of a lent run: each arm is another handler, so a table is no plainer.
+// That a number is asked for is a clause and no invariant: image::lent says why.
 #![tactic(auto)]
 
 ghost use Rattle.std.specs.Prelude.{◌≡◌, []};

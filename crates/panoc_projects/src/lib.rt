@@ -1,4 +1,5 @@
 // PROJECT's answers after a move: the iterate or the candidate is taken, or another candidate is tried.
+// That a run is sound, and that an answer has its places, are clauses and no invariants: image::lent says why.
 #![tactic(auto, using(panoc_core::specs::Laws::sound_n))]
 
 ghost use Rattle.std.specs.Prelude.{◌≡◌, ◌∷◌, [], length};

@@ -1,4 +1,6 @@
 // A step with its tests.
+// That a run is sound is a clause and no invariant: image::lent says why.
+// That norm and product are the residual's is a clause too: its vector is lent, and a record of the two could not hold it.
 #![tactic(auto, using(panoc_core::specs::Laws::sound_n))]
 
 ghost use Rattle.std.specs.Prelude.{◌∷◌, []};
