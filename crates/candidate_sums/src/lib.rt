@@ -1,6 +1,6 @@
 // A half step of the line search, in one loop with the sums of its candidate.
 // The vectors of the formula one by one, lent to be read or to be written: of a record of the run's vectors a clause would have to say which stay.
-#![tactic(auto)]
+#![tactic(auto, using(matrix_operations::specs::Laws::firsts_all))]
 
 ghost use Rattle.std.specs.Prelude.{◌≡◌, ◌≤◌, length};
 ghost use Rattle.std.specs.Float.{binary64};

@@ -1,6 +1,6 @@
 // A first candidate of the line search, in one loop with the sums that are needed there.
 // The vectors of the formula one by one, lent to be read or to be written: of a record of the run's vectors a clause would have to say which stay.
-#![tactic(auto)]
+#![tactic(auto, using(matrix_operations::specs::Laws::firsts_all, model::proofs::Literals::one_bits))]
 
 ghost use Rattle.std.specs.Prelude.{◌≡◌, ◌≤◌, length};
 ghost use Rattle.std.specs.Float.{binary64};

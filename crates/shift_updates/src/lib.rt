@@ -1,6 +1,6 @@
 // u shifted, as the estimate of the Lipschitz constant asks.
 // An array with a count, as C lends it: with slices, tried and as fast, each caller owes bounds, and that a slice holds the first places.
-#![tactic(auto)]
+#![tactic(auto, using(matrix_operations::specs::Laws::firsts_part, matrix_operations::specs::Laws::firsts_taken, matrix_operations::specs::Laws::norm_root))]
 
 ghost use Rattle.std.specs.Prelude.{◌≡◌, ◌≤◌};
 ghost use Rattle.std.specs.Float.{binary64};

@@ -1,9 +1,8 @@
 -- `line_sums::line_into` meets its contract: each turn stores a place of v, and one of the candidate, and adds the square of a place of g, and of one of a - b. Assumes nothing.
-use Rattle.std.proofs.Common.{◌≡◌, refl, sym, ◌∙◌, arith}
-use Rattle.std.proofs.Math.ListN.{length, length-set}
+use Rattle.std.proofs.Common.{refl, arith}
+use Rattle.std.proofs.Math.ListN.{length-set}
 use Rattle.std.specs.Float.Ieee.{binary64}
-use Rattle.model.proofs.Literals.{one_bits}
-use Rattle.matrix_operations.specs.Laws.{firsts_all, firsts_grows, minus_grows, less_times_grows, store_none, store_turn, squares_none, squares_turn}
+use Rattle.matrix_operations.specs.Laws.{firsts_grows, minus_grows, less_times_grows, store_none, store_turn, squares_none, squares_turn}
 use Rattle.line_sums.proofs.line_into.Goals as goal
 
 pub loop-i-init : goal.loop-i-init
@@ -11,8 +10,3 @@ loop-i-init c = (omega arith, omega arith, store_none (firsts_grows _) _, store_
 
 pub loop-i-preserved : goal.loop-i-preserved
 loop-i-preserved c = (simp length-set (omega arith), simp length-set (omega arith), store_turn (firsts_grows _) _ _ _ (omega arith) refl c.loop-i.invariant.2, store_turn (less_times_grows binary64 (less_times_grows binary64 (firsts_grows _) (firsts_grows _) _) (firsts_grows _) _) _ _ _ (omega arith) refl c.loop-i.invariant.3, squares_turn binary64 (firsts_grows _) _ _ _ refl c.loop-i.invariant.4, squares_turn binary64 (minus_grows binary64 (firsts_grows _) (firsts_grows _)) _ _ _ refl c.loop-i.invariant.5)
-
-pub returns : goal.returns
-returns c = let e : c.loop-i.i ≡ length c.args.v.now = omega arith in
-    let f = firsts_all c.args.v.now c.loop-i.i (sym e) in
-    rw (← e, ← one_bits) (record { direction = c.loop-i.invariant.2 ∙ f; candidate = rw f at c.loop-i.invariant.3; gradient = c.loop-i.invariant.4; distance = c.loop-i.invariant.5 })
