@@ -1,5 +1,5 @@
 // The points of an inner solve's question for C: copied, and where the first lies.
-#![tactic(auto)]
+#![tactic(auto, using(crate::proofs::Places::lies))]
 
 ghost use Rattle.std.specs.Prelude.{ℕ, ◌≡◌, List, Float};
 ghost use Rattle.panoc_core.specs.Board.{Board, run_of, asked};

@@ -24,6 +24,7 @@ use panoc_search::on_tried_gradient;
 use panoc_steps::timed;
 
 // A vector that was asked for.
+#[tactic(auto, using(panoc_core::specs::Wanted::vector_sound))]
 pub fn on_vector<'a>(v: &[f64], run: Lent<'a>, at: Vectors<'a>) -> Outcome
     requires { (wants_vector (wanted_of (small run)) ≡ true) × (length v.now ≡ places_in run) }
     ensures { Takes (small run.entry) (held at.entry) Reply.Vector v.now (gives result run.exit) (left at.exit) }
@@ -43,6 +44,7 @@ pub fn on_vector<'a>(v: &[f64], run: Lent<'a>, at: Vectors<'a>) -> Outcome
 }
 
 // A yes or no that was asked for.
+#[tactic(auto, using(panoc_core::specs::Wanted::wanted_sound))]
 pub fn on_decision<'a>(yes: bool, run: Lent<'a>, at: Vectors<'a>) -> Outcome
     requires { wanted_of (small run) ≡ some Kind.decision }
     ensures goes { (b : Board) → Takes (small run.entry) (Over six (held at.entry) b) (decided yes) [] (gives result run.exit) (Over six (left at.exit) b) }
@@ -53,6 +55,7 @@ pub fn on_decision<'a>(yes: bool, run: Lent<'a>, at: Vectors<'a>) -> Outcome
 }
 
 // An answer that nothing refuses. A plan stays in the best half step.
+#[tactic(auto, using(panoc_core::specs::Wanted::number_wanted, panoc_core::specs::Wanted::vector_wanted, panoc_core::specs::Wanted::took_vector))]
 pub fn take_lent<'a>(a: Reply, v: &[f64], run: Lent<'a>, at: Vectors<'a>) -> Outcome
     requires { answer_refusal (wanted_of (small run)) (reply_of a) (length v.now) true ≡ 0 }
     ensures { Takes (small run.entry) (held at.entry) a v.now (gives result run.exit) (left at.exit) }

@@ -17,6 +17,7 @@ use lent::take_lent;
 use panoc_core::panoc_cache::{Reply, Solve, Stepped};
 
 // An answer that nothing refuses. A plan stays in the best half step.
+#[tactic(auto, using(crate::specs::Laws::took_as))]
 pub fn take<'a>(s: Solve, a: Reply, v: &[f64], at: Vectors<'a>) -> Stepped
     requires { answer_refusal (wanted_of s) (reply_of a) (length v.now) true ≡ 0 }
     ensures { Takes s (held at.entry) a v.now (told result) (left at.exit) }

@@ -1,6 +1,6 @@
 // A candidate that is taken.
 // That a run is sound is a clause and no invariant: image::lent says why.
-#![tactic(auto, using(panoc_core::specs::Laws::sound_n))]
+#![tactic(auto, using(panoc_core::specs::Laws::sound_n, panoc_core::specs::Laws::taken_goes, matrix_operations::specs::Laws::norm_root))]
 
 ghost use Rattle.std.specs.Prelude.{◌∷◌, []};
 ghost use Rattle.panoc_core.specs.Board.{Board, Sound, Onward, set_u};

@@ -18,6 +18,7 @@ use panoc_core::outcome::Refusal;
 use panoc_core::panoc_cache::{ExitStatus, InnerIterations, Outcome, Phase, Reply, SolverStatus};
 
 // The end that stands for a step after which left more may begin.
+#[tactic(auto, using(panoc_core::specs::Laws::standing_none, panoc_core::specs::Laws::standing_in, panoc_core::specs::Laws::standing_out))]
 pub fn standing(left: usize, in_time: bool) -> ExitStatus
     ensures { (s : S.Settings) → result ≡ exit_status_of (I.standing binary64 s left in_time) }
 {

@@ -15,6 +15,7 @@ use panoc_core::outcome::Refusal;
 use panoc_core::panoc_cache::{Outcome, Phase, Question, Reply};
 
 // COST at u is x.
+#[tactic(auto, using(panoc_core::specs::Laws::cost_goes))]
 pub fn on_cost<'a>(x: f64, run: Lent<'a>) -> Outcome
     requires { (Sound (small run)) × (phase_in run ≡ Phase.Cost) }
     ensures goes { (b : Board) → Takes (small run.entry) b (Reply.Number x) [] (gives result run.exit) b }

@@ -31,6 +31,7 @@ pub fn on_direction<'a>(v: &[f64], run: Lent<'a>, at: Vectors<'a>) -> Outcome
 }
 
 // COST at the first iterate is x.
+#[tactic(auto, using(panoc_core::specs::Laws::first_cost_goes))]
 pub fn on_first_cost<'a>(x: f64, run: Lent<'a>) -> Outcome
     requires { (Sound (small run)) × (phase_in run ≡ Phase.FirstCost) }
     ensures goes { (b : Board) → Takes (small run.entry) b (Reply.Number x) [] (gives result run.exit) b }

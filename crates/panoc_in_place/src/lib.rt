@@ -1,5 +1,5 @@
 // The answer to a run of the inner solve, in place.
-#![tactic(auto)]
+#![tactic(auto, using(panoc_answers::proofs::AnswerLaws::answer_fits, panoc_answers::proofs::AnswerLaws::answer_length, panoc_answers::proofs::AnswerLaws::refusal_wanted))]
 
 ghost use Rattle.panoc_core.specs.Told.{told};
 ghost use Rattle.panoc_core.specs.Board.{run_of, gave};

@@ -1,6 +1,6 @@
 // A number that was asked for, by the phase of a lent run: each arm is another handler, so a table is no plainer.
 // That a number is asked for is a clause and no invariant: image::lent says why.
-#![tactic(auto)]
+#![tactic(auto, using(panoc_core::specs::Wanted::wanted_sound))]
 
 ghost use Rattle.std.specs.Prelude.{◌≡◌, []};
 ghost use Rattle.std.proofs.Math.Option.{some};

@@ -54,6 +54,7 @@ pub fn on_first_project<'a>(v: &[f64], run: Lent<'a>, at: Vectors<'a>) -> Outcom
 }
 
 // PROJECT of a candidate gave v: another candidate, or this one is taken.
+#[tactic(auto, using(panoc_core::specs::Laws::sound_n, crate::specs::Laws::size_of, crate::specs::Laws::product_of, crate::specs::Laws::worse_rounds))]
 pub fn on_tried_project<'a>(v: &[f64], run: Lent<'a>, at: Vectors<'a>) -> Outcome
     requires { (Sound (small run)) × (phase_in run ≡ Phase.TriedProject) × (length v.now ≡ places_in run) }
     ensures goes { Takes (small run.entry) (held at.entry) Reply.Vector v.now (gives result run.exit) (left at.exit) }

@@ -47,6 +47,7 @@ pub fn linesearch<'a>(v: &[f64], run: Lent<'a>, at: Vectors<'a>) -> Outcome
 }
 
 // COST at a candidate is x.
+#[tactic(auto, using(panoc_core::specs::Laws::tried_cost_goes))]
 pub fn on_tried_cost<'a>(x: f64, run: Lent<'a>) -> Outcome
     requires { (Sound (small run)) × (phase_in run ≡ Phase.TriedCost) }
     ensures goes { (b : Board) → Takes (small run.entry) b (Reply.Number x) [] (gives result run.exit) b }

@@ -46,6 +46,7 @@ pub fn wants_at(n: usize, phase: Phase) -> Option<Wanted>
 }
 
 // What a lent run waits for. Two of its three arrays, and no record of all: the floats do not count.
+#[tactic(auto, using(panoc_core::specs::Wanted::wants_at, panoc_core::specs::Wanted::wants_none))]
 pub fn wants_lent(w: &[u32; 6], k: &[usize; 6]) -> Option<Wanted>
     ensures { (f : List Float) → kind_of result ≡ wanted_of (solve_of w.now k.now f) }
 {
@@ -57,6 +58,7 @@ pub fn wants_lent(w: &[u32; 6], k: &[usize; 6]) -> Option<Wanted>
 }
 
 // What the run waits for.
+#[tactic(auto, using(panoc_core::specs::Wanted::wants_at, panoc_core::specs::Wanted::wants_none))]
 pub fn wants(s: Solve) -> Option<Wanted>
     ensures { kind_of result ≡ wanted_of s }
 {

@@ -1,14 +1,8 @@
 use Rattle.std.proofs.Common.{refl}
 use Rattle.image.specs.LentRun.{held}
-use Rattle.panoc_answers.proofs.AnswerLaws.{answer_goes, answer_refused, answer_fits, answer_length, refusal_wanted}
+use Rattle.panoc_answers.proofs.AnswerLaws.{answer_goes, answer_refused, refusal_wanted}
 use Rattle.panoc_core.specs.Numbers.{refusal_some}
 use Rattle.panoc_in_place.proofs.answer_in_place.Goals as goal
-
-pub take-r-requires : goal.take-r-requires
-take-r-requires c = answer_fits c.args.s c.args.a c.args.v.now c.args.plan.now _ _ refl (refusal_wanted c.args.s c.wants.result c.args.a _ _ c.wants.ensures c.in-None.ensures) refl
-
-pub hand_out-requires : goal.hand_out-requires
-hand_out-requires c = answer_length c.args.s c.args.a c.args.v.now c.args.plan.now _ _ refl (refusal_wanted c.args.s c.wants.result c.args.a _ _ c.wants.ensures c.in-None.ensures) refl
 
 pub returns-in-None : goal.returns-in-None
 returns-in-None c = answer_goes c.args.s (held c.args.at) c.args.a c.args.v.now c.args.plan.now _ _ refl (refusal_wanted c.args.s c.wants.result c.args.a _ _ c.wants.ensures c.in-None.ensures) _ _ _ refl c.take-r.ensures c.hand_out.ensures

@@ -1,13 +1,7 @@
-use Rattle.panoc_projects.specs.Laws.{envelope_of, size_of, product_of, worse_less, worse_rounds, tried_worse, tried_takes}
+use Rattle.panoc_projects.specs.Laws.{envelope_of, worse_less, tried_worse, tried_takes}
 use Rattle.panoc_core.specs.Board.{set_half}
 use Rattle.image.specs.LentRun.{small, held}
 use Rattle.panoc_projects.proofs.on_tried_project.Goals as goal
-
-pub try_again-requires : goal.try_again-requires
-try_again-requires c = (c.requires.0, worse_rounds _ _ _ _ c.worse-again.ensures c.if-again.true)
-
-pub take_candidate-requires : goal.take_candidate-requires
-take_candidate-requires c = (c.requires.0, (size_of _ _ c.requires.2 _ _ _ c.candidate_sums_into-sums.ensures.half c.candidate_sums_into-sums.ensures.size, product_of _ _ c.requires.2 _ _ _ _ c.candidate_sums_into-sums.ensures.half c.candidate_sums_into-sums.ensures.product))
 
 pub returns-then-again-clause-goes : goal.returns-then-again-clause-goes
 returns-then-again-clause-goes c =

@@ -1,35 +1,7 @@
-use Rattle.panoc_core.specs.Wanted.{vector_sound}
 use Rattle.panoc_answers.proofs.Phases.{vector_phase}
 use Rattle.image.specs.LentRun.{small, held}
-use Rattle.std.proofs.Common.{sym, ◌∙◌}
+use Rattle.std.proofs.Common.{sym}
 use Rattle.panoc_answers.proofs.lent.on_vector.Goals as goal
-
-pub on_gradient-requires : goal.on_gradient-requires
-on_gradient-requires c = (vector_sound (small c.args.run) c.requires.0, (sym c.phase_of.ensures ∙ c.in-Gradient.is), c.requires.1)
-
-pub on_shifted-requires : goal.on_shifted-requires
-on_shifted-requires c = (vector_sound (small c.args.run) c.requires.0, (sym c.phase_of.ensures ∙ c.in-Shifted.is), c.requires.1)
-
-pub on_project-requires : goal.on_project-requires
-on_project-requires c = (vector_sound (small c.args.run) c.requires.0, (sym c.phase_of.ensures ∙ c.in-Project.is), c.requires.1)
-
-pub on_doubled_project-requires : goal.on_doubled_project-requires
-on_doubled_project-requires c = (vector_sound (small c.args.run) c.requires.0, (sym c.phase_of.ensures ∙ c.in-DoubledProject.is), c.requires.1)
-
-pub on_direction-requires : goal.on_direction-requires
-on_direction-requires c = (vector_sound (small c.args.run) c.requires.0, (sym c.phase_of.ensures ∙ c.in-Direction.is), c.requires.1)
-
-pub on_first_gradient-requires : goal.on_first_gradient-requires
-on_first_gradient-requires c = (vector_sound (small c.args.run) c.requires.0, (sym c.phase_of.ensures ∙ c.in-FirstGradient.is), c.requires.1)
-
-pub on_first_project-requires : goal.on_first_project-requires
-on_first_project-requires c = (vector_sound (small c.args.run) c.requires.0, (sym c.phase_of.ensures ∙ c.in-FirstProject.is), c.requires.1)
-
-pub on_tried_gradient-requires : goal.on_tried_gradient-requires
-on_tried_gradient-requires c = (vector_sound (small c.args.run) c.requires.0, (sym c.phase_of.ensures ∙ c.in-TriedGradient.is), c.requires.1)
-
-pub on_tried_project-requires : goal.on_tried_project-requires
-on_tried_project-requires c = (vector_sound (small c.args.run) c.requires.0, (sym c.phase_of.ensures ∙ c.in-TriedProject.is), c.requires.1)
 
 pub returns-in-Gradient : goal.returns-in-Gradient
 returns-in-Gradient c = rw (c.on_gradient.ensures.vectors.1, c.on_gradient.ensures.vectors.3, c.on_gradient.ensures.vectors.4, c.on_gradient.ensures.vectors.5, c.on_gradient.ensures.vectors.6, c.on_gradient.ensures.vectors.7, c.on_gradient.ensures.vectors.8) (c.on_gradient.ensures.goes (held c.args.at))
@@ -54,9 +26,6 @@ returns-in-FirstProject c = rw (c.on_first_project.ensures.vectors.1, c.on_first
 
 pub returns-in-TriedGradient : goal.returns-in-TriedGradient
 returns-in-TriedGradient c = rw (c.on_tried_gradient.ensures.vectors.0, c.on_tried_gradient.ensures.vectors.3, c.on_tried_gradient.ensures.vectors.5, c.on_tried_gradient.ensures.vectors.6, c.on_tried_gradient.ensures.vectors.7, c.on_tried_gradient.ensures.vectors.8) (c.on_tried_gradient.ensures.goes (held c.args.at))
-
-pub returns-in-TriedProject : goal.returns-in-TriedProject
-returns-in-TriedProject c = c.on_tried_project.ensures.goes
 
 pub unreachable-requires : goal.unreachable-requires
 unreachable-requires c = vector_phase (small c.args.run) _ c.requires.0 (sym c.phase_of.ensures) c.in_default.not-Gradient c.in_default.not-Shifted c.in_default.not-Project c.in_default.not-DoubledProject c.in_default.not-Direction c.in_default.not-FirstGradient c.in_default.not-FirstProject c.in_default.not-TriedGradient c.in_default.not-TriedProject

@@ -1,14 +1,8 @@
-use Rattle.panoc_core.specs.Wanted.{number_wanted, vector_wanted, decision_wanted, took_number, took_vector, took_decision, took_failure, refusal_of}
+use Rattle.panoc_core.specs.Wanted.{decision_wanted, took_number, took_decision, took_failure, refusal_of}
 use mathlib.Core.Bool.{true, false}
 use Rattle.image.specs.LentRun.{small, held}
 use Rattle.std.proofs.Common.{refl}
 use Rattle.panoc_answers.proofs.lent.take_lent.Goals as goal
-
-pub on_number-requires : goal.on_number-requires
-on_number-requires c = number_wanted _ _ _ (refusal_of (small c.args.run) _ c.in-Number.is c.requires)
-
-pub on_vector-requires : goal.on_vector-requires
-on_vector-requires c = vector_wanted _ _ (refusal_of (small c.args.run) _ c.in-Vector.is c.requires)
 
 pub on_decision-requires : goal.on_decision-requires
 on_decision-requires c = decision_wanted _ true _ (refusal_of (small c.args.run) _ c.in-Yes.is c.requires)
@@ -18,9 +12,6 @@ on_decision-requires-in-No c = decision_wanted _ false _ (refusal_of (small c.ar
 
 pub returns-in-Number : goal.returns-in-Number
 returns-in-Number c = took_number (small c.args.run) (held c.args.at) _ _ _ _ _ c.in-Number.is (c.on_number.ensures (held c.args.at))
-
-pub returns-in-Vector : goal.returns-in-Vector
-returns-in-Vector c = took_vector (small c.args.run) (held c.args.at) _ _ _ _ c.in-Vector.is c.on_vector.ensures
 
 pub returns-in-Yes : goal.returns-in-Yes
 returns-in-Yes c = rw (c.on_decision.ensures.vectors.1, c.on_decision.ensures.vectors.4, c.on_decision.ensures.vectors.7) (took_decision (small c.args.run) (held c.args.at) _ _ _ _ true c.in-Yes.is (c.on_decision.ensures.goes (held c.args.at)))
