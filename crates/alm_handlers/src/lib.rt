@@ -1,4 +1,5 @@
-// The handlers of the loop's own questions.
+// The handlers of the loop's own questions. `Ready s` is a clause and no invariant of Alm: alm_iterations says why. A `return` ends those that
+// put a record together anew, as alm_image::records says.
 #![tactic(auto, using(alm_core::specs::Laws::sized_n1, alm_core::specs::Laws::sized_n2))]
 
 ghost use Rattle.std.specs.Prelude.{◌≡◌, ◌∷◌, true, [], length};
@@ -40,9 +41,7 @@ pub fn on_f2<'a>(s: Alm, v: &[f64], at: OwnVectors<'a>) -> AlmStepped
         f2_norm_plus: matrix_operations::norm2(scratch, s.set.n2),
         ..s.numbers
     };
-    // named, since a record with a vector lent on is not covered by the borrow checker as the last expression
-    let r = weigh(Alm { numbers, ..s }, OuterVectors { u, best, y, plus });
-    r
+    return weigh(Alm { numbers, ..s }, OuterVectors { u, best, y, plus });
 }
 
 // F1 at the plan is v: the projection on C is asked at F1 + y / c.
@@ -81,9 +80,7 @@ pub fn on_project_c<'a>(s: Alm, v: &[f64], at: OwnVectors<'a>) -> AlmStepped
         delta_y_norm_plus: matrix_operations::norm2_diff(plus, y, s.set.n1),
         ..s.numbers
     };
-    // named, as in `on_f2`
-    let r = ask_f2(Alm { numbers, ..s }, OuterVectors { u, best, y, plus });
-    r
+    return ask_f2(Alm { numbers, ..s }, OuterVectors { u, best, y, plus });
 }
 
 // The projection of y on Y is v.

@@ -1,7 +1,7 @@
 // The small part of a loop in lent arrays.
 ghost use Rattle.std.specs.Prelude.{◌≡◌};
 ghost use Rattle.panoc_core.specs.Told.{numbered, told};
-ghost use Rattle.alm_image.specs.AlmImage.{settings_given, numbers_of, with_flags, with_counts, with_numbers, noted_outer, noted_ends};
+ghost use Rattle.alm_image.specs.AlmImage.{numbers_of, with_flags, with_counts, with_numbers, noted_outer, noted_ends};
 ghost use Rattle.alm_image.specs.LentLoop.{loop_in, settings_in, settings_held, loop_left, loop_told, settings_left, LoopTells, SameSolve, SameFlags};
 
 use crate::kinds::{alm_phase_number, alm_phase_of, alm_question_number};
@@ -17,45 +17,8 @@ use image::kinds::{flag_number, flag_of, status_number, status_of};
 use image::lent::{Lent, LentRead};
 use image::told;
 use image_puts::{note, note_end};
-use image_solve::{solve_of, store};
+use image_solve::{refuse, solve_of, store};
 use panoc_core::panoc_cache::InnerIterations;
-
-// The settings of a start, from its numbers.
-pub fn settings_given(
-    n: usize,
-    n1: usize,
-    n2: usize,
-    has_set_y: u32,
-    max_inner: usize,
-    max_outer: usize,
-    limited: u32,
-    tolerance: f64,
-    epsilon: f64,
-    delta: f64,
-    initial: f64,
-    penalty_factor: f64,
-    epsilon_factor: f64,
-    coefficient: f64,
-) -> AlmSettings
-    ensures { result ≡ settings_given n n1 n2 has_set_y max_inner max_outer limited tolerance epsilon delta initial penalty_factor epsilon_factor coefficient }
-{
-    AlmSettings {
-        n,
-        n1,
-        n2,
-        has_set_y: flag_of(has_set_y),
-        max_inner_iterations: max_inner,
-        max_outer_iterations: max_outer,
-        limited: flag_of(limited),
-        tolerance,
-        epsilon_tolerance: epsilon,
-        delta_tolerance: delta,
-        initial_inner_tolerance: initial,
-        penalty_update_factor: penalty_factor,
-        epsilon_update_factor: epsilon_factor,
-        sufficient_decrease_coeff: coefficient,
-    }
-}
 
 // The settings that the lent numbers stand for. No impl of From, which would say by a ghost member what the clause says here.
 // Three of the six arrays are read: alm_of, the one caller, has the record whole.
@@ -211,6 +174,7 @@ pub fn keep_alm<'a>(s: Alm, run: LoopLent<'a>)
 }
 
 // The numbers of an end that an inner solve has not. Two of six arrays: tell_alm has the record taken apart already.
+#[tactic(auto, using(crate::proofs::Spelled::ten, crate::proofs::Spelled::seventeen))]
 fn note_ends(
     outer: usize,
     delta_y: f64,
@@ -228,6 +192,7 @@ fn note_ends(
 }
 
 // What a call gives, told in the lent numbers; its kind is the result, a number since C reads it.
+// One match over what is told: each arm writes other numbers.
 pub fn tell_alm<'a>(o: AlmOutcome, run: LoopLent<'a>) -> u32
     ensures told { LoopTells (numbered o) result run.entry run.exit }
     ensures flags { SameFlags run.entry run.exit }
@@ -264,10 +229,7 @@ pub fn tell_alm<'a>(o: AlmOutcome, run: LoopLent<'a>) -> u32
             );
             told::ENDED
         }
-        AlmOutcome::Refused(refusal) => {
-            note(refusal.number(), w);
-            told::REFUSED
-        }
+        AlmOutcome::Refused(refusal) => refuse(refusal, w),
         AlmOutcome::Failed(code) => {
             note(code, w);
             told::FAILED

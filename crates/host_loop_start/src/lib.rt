@@ -6,9 +6,11 @@ ghost use Rattle.alm_core.specs.Board.{set_u, set_y, set_y_plus};
 ghost use Rattle.alm_calls.specs.LoopCalls.{Begins};
 ghost use Rattle.alm_image.specs.AlmImage.{settings_given, told_of};
 
-use alm_image::lent::{begin, keep_step, settings_given};
+use alm_core::alm_cache::AlmSettings;
+use alm_image::lent::{begin, keep_step};
 use alm_image::records::LoopLent;
 use alm_starts::start_in_place;
+use image::kinds::flag_of;
 
 // A run that is begun at the lent slices, or its refusal.
 // host_c has a function of this name that calls this one: a crate is a library or a static library, not both.
@@ -42,22 +44,22 @@ pub extern "C" fn pozkerrin_loop_start(
 ) -> u32
     ensures { (b : LoopBoard) → Begins (settings_given n n1 n2 has_set_y max_inner max_outer limited tolerance epsilon delta initial penalty_factor epsilon_factor coefficient) at.now xi.now (told_of result w.new k.new f.new lw.new lk.new lf.new) (set_u u.new (set_y y.new (set_y_plus plus.new b))) }
 {
-    let set = settings_given(
+    let set = AlmSettings {
         n,
         n1,
         n2,
-        has_set_y,
-        max_inner,
-        max_outer,
-        limited,
+        has_set_y: flag_of(has_set_y),
+        max_inner_iterations: max_inner,
+        max_outer_iterations: max_outer,
+        limited: flag_of(limited),
         tolerance,
-        epsilon,
-        delta,
-        initial,
-        penalty_factor,
-        epsilon_factor,
-        coefficient,
-    );
+        epsilon_tolerance: epsilon,
+        delta_tolerance: delta,
+        initial_inner_tolerance: initial,
+        penalty_update_factor: penalty_factor,
+        epsilon_update_factor: epsilon_factor,
+        sufficient_decrease_coeff: coefficient,
+    };
     let begun = LoopLent {
         w,
         k,
