@@ -1,4 +1,4 @@
-// The points of the question that a run of the loop waits with.
+// The points of the question that a run of the loop waits with. That n1 ≤ 32 is a clause, as n ≤ 64: matrix_operations says why.
 #![tactic(auto)]
 
 ghost use Rattle.std.specs.Prelude.{◌≡◌, ◌≤◌};
@@ -49,7 +49,7 @@ fn inner_second_places(s: Alm) -> usize
     }
 }
 
-// How many places the second point of the question has.
+// How many places the second point of the question has. host_loop_second reads it off lent numbers, and says why.
 pub fn second_places(s: Alm) -> usize
     requires { s.set.n1 ≤ 32 }
     ensures { result ≡ second_places s s.phase }

@@ -1,4 +1,5 @@
 // The vectors that the points of the loop's question are copied from, by the phase: each arm names its vector, which a closure would not say plainer.
+// That n1 ≤ 32 is a clause, as n ≤ 64: matrix_operations says why.
 #![tactic(auto)]
 
 ghost use Rattle.std.specs.Prelude.{◌≡◌, length, ◌≤◌};
@@ -57,7 +58,7 @@ fn inner_second_point(s: Alm, second: &mut [f64], u: &[f64; 64], y: &[f64; 64])
     }
 }
 
-// The second point of the question that the run waits with.
+// The second point of the question that the run waits with. host_loop_second reads it off lent numbers, and says why.
 pub fn second_point(s: Alm, second: &mut [f64], u: &[f64; 64], y: &[f64; 64])
     requires { (Sound s) × (length second.old ≡ second_places s s.phase) }
     ensures { second.new ≡ second_at_phase s u.now y.now s.phase second.old }

