@@ -1,4 +1,4 @@
-// The lent u and xi: their lengths, and what an end puts into them.
+// The lent u and xi: their lengths, and what an end puts into them. That xi has at most 33 places is a clause, as n ≤ 64: matrix_operations says why.
 ghost use Rattle.std.specs.Prelude.{◌≡◌, length, ◌∷◌, ◌-◌, ◌≤◌};
 ghost use Rattle.matrix_operations.specs.Firsts.{firsts};
 ghost use Rattle.panoc_core.specs.Told.{numbered};

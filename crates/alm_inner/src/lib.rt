@@ -1,4 +1,4 @@
-// What the inner solve has come to, carried out by the loop.
+// What the inner solve has come to, carried out by the loop. `Ready s` is a clause and no invariant of Alm: alm_iterations says why.
 #![tactic(auto)]
 
 ghost use Rattle.std.specs.Prelude.{◌≡◌, ◌≤◌};

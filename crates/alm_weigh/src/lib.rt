@@ -1,5 +1,6 @@
 // The weighing of an outer iteration, and what is asked before it. `ask_f2` and `ask_f1` are alike, but leave out another mapping and go on to
 // another function: one function for both would take the size, the phase, the question, the numbers without it and what follows.
+// `Ready s` is a clause and no invariant of Alm: alm_iterations says why.
 #![tactic(auto, using(alm_core::specs::Laws::sized_n, alm_core::specs::Laws::sized_n1))]
 
 ghost use Rattle.std.specs.Float.{binary64};

@@ -1,5 +1,5 @@
 // An answer of any kind to a lent loop that nothing refuses.
-// The result is the kind that the call for C returns.
+// The result is the kind that the call for C returns. That nothing refuses the answer is a clause and no invariant: image::lent says why.
 #![tactic(auto)]
 
 ghost use Rattle.alm_core.specs.LentLoop.{held, left};

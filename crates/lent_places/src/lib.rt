@@ -1,4 +1,5 @@
 // The lent u and xi of a loop on lent numbers: whether they fit, and what an end hands back in them.
+// That xi has at most 33 places is a clause, as n ≤ 64: matrix_operations says why.
 #![tactic(auto)]
 
 ghost use Rattle.std.specs.Prelude.{◌≡◌, ◌&&◌, ◌≤◌, eqb, length, get_or};

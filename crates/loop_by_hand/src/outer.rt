@@ -1,4 +1,5 @@
-// The multiplier loop; COST and GRADIENT are answered by psi and d_psi.
+// The multiplier loop; COST and GRADIENT are answered by psi and d_psi. Each match is over an enum, and each arm prints and answers another
+// thing.
 use alm::alm_optimizer::answer;
 use alm_core::alm_cache::{AlmOptimizerStatus, AlmOutcome, AlmQuestion, AlmRun, AlmSettings};
 use alm_points::points;

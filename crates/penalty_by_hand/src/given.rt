@@ -1,4 +1,5 @@
-// An answer as a value, and the answers to the questions of psi and d_psi, some of which the loop asks too.
+// An answer as a value, and the answers to the questions of psi and d_psi, some of which the loop asks too. Each match is over an enum, and
+// each arm prints or answers another thing. That `points` may be called is a clause, since a call of a closure that is passed in owes it.
 use crate::kiln;
 use factory::alm_factory::PsiQuestion;
 use panoc_core::outcome::Refusal;

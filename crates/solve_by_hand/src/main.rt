@@ -1,4 +1,5 @@
 // A quadratic with a box, solved by hand; tests/solve_by_hand.py made its stdout from what the Rust prints (`oracle expect`).
+// Each match is over an enum, and each arm prints another thing.
 #![tactic(auto)]
 
 use panoc::panoc_optimizer::answer;
