@@ -2,7 +2,7 @@
 use Prim.Native.Nat.{ℕ, zero, suc, ◌-◌, ◌≤◌, ◌<◌}
 use Rattle.std.proofs.Math.Path.{◌≡◌, refl, sym, ap, subst}
 use Rattle.std.proofs.Common.{◌∙◌, arith}
-use Rattle.std.specs.Prelude.{Bool, ◌&&◌, ◌||◌, ltb, take, drop, set}
+use Rattle.std.specs.Prelude.{Bool, ◌&&◌, ◌||◌, ltb, set}
 use Rattle.std.proofs.Math.Bool.{true, false, cond}
 use mathlib.Core.List.{List, [], ◌∷◌}
 use Rattle.std.proofs.Math.Option.{Option, none, some}
@@ -30,7 +30,6 @@ use Rattle.panoc_core.specs.declared.panoc_cache.Reply.TheVariants.{Number, Vect
 use Rattle.panoc_core.specs.declared.panoc_cache.Phase.{Phase}
 use Rattle.panoc_core.specs.declared.panoc_cache.Phase.TheVariants as IP
 use Rattle.panoc_core.specs.declared.panoc_cache.Settings.{Settings}
-use Rattle.std.specs.Prelude.{Some}
 use Rattle.panoc_core.specs.declared.panoc_cache.Solve.{Solve}
 use Rattle.panoc_core.specs.declared.panoc_cache.Run.{Run}
 use Rattle.panoc_core.specs.declared.refusals.Wanted.{Wanted}
@@ -57,19 +56,6 @@ bit e = absurd (omega (arith, ap {B = ℕ} (λ (c : Bool). cond c 1 0) e))
 pub sized_is : (s : Alm) → s.set.n ≤ 64 → s.set.n1 ≤ 32 → s.set.n2 ≤ 32 → leb s.set.max_inner_iterations 10000 ≡ sized s
 unfolding sized
 sized_is s a b c = rw (le-leb _ _ a, le-leb _ _ b, le-leb _ _ c)
-
-pub sound_last : (s : Alm) (t : Bool) → t ≡ sized s → t ≡ true → s.phase ≡ P.LastCost → true ≡ sound s
-unfolding sound
-sound_last s t e q p = sym (ap (λ (c : Bool). c && (is_last s.phase || counts s)) (sym e ∙ q) ∙ ap (λ (z : AlmPhase). is_last z || counts s) p)
-
-pub sound_other : (s : Alm) (p : AlmPhase) (t c : Bool) → t ≡ sized s → t ≡ true → s.phase ≡ p → is_last p ≡ false → c ≡ counts s → c ≡ sound s
-unfolding sound
-sound_other s p t c e q w l d =
-    d ∙ sym (ap (λ (b : Bool). b && (is_last s.phase || counts s)) (sym e ∙ q) ∙ ap (λ (z : AlmPhase). is_last z || counts s) w ∙ ap (λ (b : Bool). b || counts s) l)
-
-pub sound_not : (s : Alm) (t : Bool) → t ≡ sized s → t ≡ false → false ≡ sound s
-unfolding sound
-sound_not s t e q = sym (ap (λ (b : Bool). b && (is_last s.phase || counts s)) (sym e ∙ q))
 
 pub sound_sized : (s : Alm) → Sound s → sized s ≡ true
 unfolding sound

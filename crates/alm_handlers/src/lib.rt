@@ -93,6 +93,7 @@ pub fn on_project_y(s: Alm, v: &[f64], y: &mut [f64; 64]) -> AlmStepped
 }
 
 // TIME is answered yes or no.
+#[tactic(auto, using(alm_core::specs::Laws::time_first))]
 pub fn on_time(s: Alm, yes: bool) -> AlmStepped
     requires { (Ready s) × (s.phase ≡ AlmPhase.Time) }
     ensures { (b : LoopBoard) → Takes s b (decided yes) [] (told result) b }
@@ -107,6 +108,7 @@ pub fn on_time(s: Alm, yes: bool) -> AlmStepped
 }
 
 // The last COST is x, taken unchecked.
+#[tactic(auto, using(alm_core::specs::Laws::last_delta, alm_core::specs::Laws::last_norm, alm_core::specs::Laws::last_gives))]
 pub fn on_last_cost(s: Alm, x: f64) -> AlmStepped
     requires { (sized s ≡ true) × (s.phase ≡ AlmPhase.LastCost) }
     ensures { (b : LoopBoard) → Takes s b (Number x) [] (told result) b }
@@ -138,6 +140,7 @@ pub fn handed_back(s: Alm, x: f64) -> AlmOptimizerStatus
 }
 
 // c, 0 where xi is empty.
+#[tactic(auto, using(alm_core::specs::Laws::penalty_empty, alm_core::specs::Laws::penalty_there))]
 pub fn penalty_of(s: Alm) -> f64
     ensures { result ≡ L.penalty_of (set_of s) s.numbers.penalty }
 {

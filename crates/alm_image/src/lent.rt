@@ -238,6 +238,7 @@ pub fn tell_alm<'a>(o: AlmOutcome, run: LoopLent<'a>) -> u32
 }
 
 // What a step of the loop gave, kept and told; its kind is the result, a number since C reads it.
+#[tactic(auto, using(crate::specs::AlmStored::stored_as))]
 pub fn keep_step<'a>(o: AlmStepped, run: LoopLent<'a>) -> u32
     requires { settings_held run ≡ o.state.set }
     ensures { loop_told result run.exit ≡ told o }

@@ -16,6 +16,7 @@ use alm_core::alm_steps::{conclude, to};
 use panoc_core::panoc_cache::{ExitStatus, Question};
 
 // An inner solve begins at u.
+#[tactic(auto, using(alm_core::specs::Laws::inner_goes))]
 pub fn inner_solve(s: Alm) -> AlmStepped
     requires { Ready s }
     ensures { (b : LoopBoard) → Comes s.set (L.inner_solve binary64 (set_of s) (next_of s b) (state_of s b)) (told result) b }
@@ -29,6 +30,7 @@ pub fn inner_solve(s: Alm) -> AlmStepped
 }
 
 // An outer iteration: the projection of y on Y, and the inner solve.
+#[tactic(auto, using(alm_core::specs::Laws::y_asks))]
 pub fn iteration(s: Alm) -> AlmStepped
     requires { Ready s }
     ensures { (b : LoopBoard) → Comes s.set (L.iteration binary64 (set_of s) (next_of s b) (state_of s b)) (told result) b }
@@ -45,6 +47,7 @@ pub fn iteration(s: Alm) -> AlmStepped
 }
 
 // TIME if limited.
+#[tactic(auto, using(alm_core::specs::Laws::time_asks))]
 pub fn begins(s: Alm) -> AlmStepped
     requires { Ready s }
     ensures { (b : LoopBoard) → Comes s.set (L.begins binary64 (set_of s) (next_of s b) (state_of s b)) (told result) b }

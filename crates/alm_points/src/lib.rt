@@ -63,6 +63,7 @@ pub fn second_places(s: Alm) -> usize
 
 // The points of the question of a run in place, refused where it has ended and where a slice is not as long as its point.
 // As panoc_points: two tests and two copies. One function for both would take what waits, both lengths and both copies as closures.
+#[tactic(auto, using(crate::specs::LoopPointLaws::waiting_sound))]
 pub fn points_in_place<'a>(
     s: Alm,
     first: &mut [f64],

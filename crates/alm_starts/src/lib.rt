@@ -69,6 +69,7 @@ pub fn start_refusal(set: AlmSettings, us: usize, xi: &[f64]) -> Option<Refusal>
 }
 
 // A run in place that is begun at first and xi, or its refusal.
+#[tactic(auto, using(alm_calls::proofs::LoopLaws::start_plan, alm_calls::proofs::LoopLaws::start_xi, alm_calls::proofs::LoopLaws::start_left))]
 pub fn start_in_place(
     set: AlmSettings,
     plan: &[f64],

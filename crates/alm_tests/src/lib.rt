@@ -11,6 +11,7 @@ use alm_core::alm_cache::{Alm, AlmNumbers, OuterIterations};
 use panoc_core::panoc_cache::InnerIterations;
 
 // |y_plus - y| ≤ c × δ + 2^-52, from the second iteration on, where n1 > 0.
+#[tactic(auto, using(alm_core::specs::Laws::settled_y_none, alm_core::specs::Laws::settled_y_first, alm_core::specs::Laws::settled_y_is))]
 pub fn multipliers_settled(s: Alm) -> bool
     ensures { result ≡ settled_y s }
 {
@@ -21,6 +22,7 @@ pub fn multipliers_settled(s: Alm) -> bool
 }
 
 // |F2| ≤ δ + 2^-52, where n2 > 0.
+#[tactic(auto, using(alm_core::specs::Laws::settled_f2_none, alm_core::specs::Laws::settled_f2_is))]
 pub fn mapping_settled(s: Alm) -> bool
     ensures { result ≡ settled_f2 s }
 {
@@ -28,6 +30,7 @@ pub fn mapping_settled(s: Alm) -> bool
 }
 
 // The exit test of an outer iteration.
+#[tactic(auto, using(alm_core::specs::Laws::exits_is, alm_core::specs::Laws::exits_not_f2, alm_core::specs::Laws::exits_not_y))]
 pub fn is_exit_criterion_satisfied(s: Alm) -> bool
     ensures { (b : LoopBoard) → result ≡ L.exits binary64 (set_of s) (found_all s b) }
 {
@@ -37,6 +40,7 @@ pub fn is_exit_criterion_satisfied(s: Alm) -> bool
 }
 
 // Whether an infeasibility is ≤ coefficient × the former + 2^-52.
+#[tactic(auto, using(alm_core::specs::Laws::decreased_is))]
 pub fn decreased(s: Alm, norm: f64, former: f64) -> bool
     ensures { result ≡ L.decreased binary64 (set_of s) norm former }
 {
@@ -44,6 +48,7 @@ pub fn decreased(s: Alm, norm: f64, former: f64) -> bool
 }
 
 // Whether each infeasibility present has decreased; with neither present none has.
+#[tactic(auto, using(alm_core::specs::Laws::stalls_none, alm_core::specs::Laws::stalls_f2, alm_core::specs::Laws::stalls_y, alm_core::specs::Laws::stalls_both, alm_core::specs::Laws::stalls_not))]
 pub fn is_penalty_stall_criterion(s: Alm) -> bool
     ensures { (b : LoopBoard) → result ≡ L.stalls binary64 (set_of s) (found_all s b) }
 {
@@ -58,6 +63,7 @@ pub fn is_penalty_stall_criterion(s: Alm) -> bool
 }
 
 // The penalty after an iteration that did not end the loop.
+#[tactic(auto, using(alm_core::specs::Laws::penalty_first, alm_core::specs::Laws::penalty_stays, alm_core::specs::Laws::penalty_grows))]
 pub fn update_penalty_parameter(s: Alm) -> f64
     ensures { (b : LoopBoard) → result ≡ L.next_penalty binary64 (set_of s) (found_all s b) }
 {
@@ -69,6 +75,7 @@ pub fn update_penalty_parameter(s: Alm) -> f64
 }
 
 // The AKKT tolerance of the next inner solve.
+#[tactic(auto, using(alm_core::specs::Laws::akkt_is))]
 pub fn update_inner_akkt_tolerance(s: Alm) -> f64
     ensures { result ≡ L.next_akkt binary64 (set_of s) s.numbers.akkt_tolerance }
 {

@@ -32,6 +32,7 @@ pub fn carries_xi_at(phase: Phase) -> bool
 }
 
 // The first point of the question that the run waits with.
+#[tactic(auto, using(crate::specs::VectorLaws::first_room, crate::specs::VectorLaws::sound_inner))]
 pub fn first_point<'a>(s: Alm, first: &mut [f64], at: LoopPointVectors<'a>)
     requires { (Sound s) × (length first.old ≡ first_places s s.phase) }
     ensures { (b : LoopBoard) → first.new ≡ first_at s (held at.entry b) s.phase first.old }
@@ -47,6 +48,7 @@ pub fn first_point<'a>(s: Alm, first: &mut [f64], at: LoopPointVectors<'a>)
 }
 
 // The second point of the inner solve's question: xi, or u for DIRECTION.
+#[tactic(auto, using(crate::specs::VectorLaws::room_with))]
 fn inner_second_point(s: Alm, second: &mut [f64], u: &[f64; 64], y: &[f64; 64])
     requires { (s.set.n1 ≤ 32) × (s.solve.set.n ≤ 64) × (length second.old ≡ inner_second s) }
     ensures { second.new ≡ inner_second_at s u.now y.now second.old }
@@ -59,6 +61,7 @@ fn inner_second_point(s: Alm, second: &mut [f64], u: &[f64; 64], y: &[f64; 64])
 }
 
 // The second point of the question that the run waits with. host_loop_second reads it off lent numbers, and says why.
+#[tactic(auto, using(crate::specs::VectorLaws::sound_wide, crate::specs::VectorLaws::sound_inner, crate::specs::VectorLaws::xi_room))]
 pub fn second_point(s: Alm, second: &mut [f64], u: &[f64; 64], y: &[f64; 64])
     requires { (Sound s) × (length second.old ≡ second_places s s.phase) }
     ensures { second.new ≡ second_at_phase s u.now y.now s.phase second.old }

@@ -17,6 +17,7 @@ use panoc_core::refusals::Wanted;
 use panoc_wanted::wants_lent;
 
 // A run that no start made counts as one that has ended.
+#[tactic(auto, using(alm_image::proofs::Phases::not_last), unfolding(alm_core::specs::Rest::sound))]
 pub fn is_sound<'a>(run: LoopRead<'a>) -> bool
     ensures { result ≡ sound (loop_in run.entry) }
 {
@@ -28,6 +29,7 @@ pub fn is_sound<'a>(run: LoopRead<'a>) -> bool
 }
 
 // What the run waits for.
+#[tactic(auto, using(alm_image::proofs::Phases::not_inner), unfolding(alm_calls::specs::LoopCalls::wanted_of))]
 pub fn wants<'a>(run: LoopRead<'a>) -> Option<Wanted>
     ensures { kind_of result ≡ wanted_of (loop_in run.entry) }
 {

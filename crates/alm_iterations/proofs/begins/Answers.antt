@@ -1,8 +1,5 @@
-use Rattle.alm_core.specs.Laws.{time_asks, time_none}
+use Rattle.alm_core.specs.Laws.{time_none}
 use Rattle.alm_iterations.proofs.begins.Goals as goal
-
-pub returns-then-s : goal.returns-then-s
-returns-then-s c = λ b. time_asks c.args.s b _ c.requires c.if-s.true c.to.ensures
 
 pub returns-else-s : goal.returns-else-s
 returns-else-s c = λ b. time_none c.args.s b _ c.if-s.false (c.iteration.ensures b)

@@ -18,11 +18,5 @@ returns-then-first-first_places c = λ b.
       | then-first-first_places-via-else-first-first_places+then-second-second_places w ↦ points_second c.args.s (held c.args.at b) c.args.first.now c.args.second.now _ c.is_waiting.ensures c.if-not-is_waiting.false (w.if-first-first_places.false ∙ c.first_places.ensures) (λ e. w.if-second-second_places.true (e ∙ sym w.second_places.ensures))
     ]
 
-pub first_point-requires : goal.first_point-requires
-first_point-requires c = ((waiting_sound c.args.s _ c.is_waiting.ensures c.if-not-is_waiting.false), c.if-first-first_places.false ∙ c.first_places.ensures)
-
-pub second_point-requires : goal.second_point-requires
-second_point-requires c = ((waiting_sound c.args.s _ c.is_waiting.ensures c.if-not-is_waiting.false), c.if-second-second_places.false ∙ c.second_places.ensures)
-
 pub returns : goal.returns
 returns c = λ b. points_given c.args.s (held c.args.at b) c.args.first.now c.args.second.now _ c.is_waiting.ensures c.if-not-is_waiting.false _ _ (c.if-first-first_places.false ∙ c.first_places.ensures) (c.if-second-second_places.false ∙ c.second_places.ensures) (c.first_point.ensures b) c.second_point.ensures

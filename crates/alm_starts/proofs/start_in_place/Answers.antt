@@ -1,19 +1,7 @@
 use Rattle.std.proofs.Common.{sym, refl}
 use Rattle.panoc_core.specs.Numbers.{refusal_some}
-use Rattle.alm_calls.proofs.LoopLaws.{start_plan, start_xi, start_left, start_ready, start_runs, start_refuses}
+use Rattle.alm_calls.proofs.LoopLaws.{start_ready, start_runs, start_refuses}
 use Rattle.alm_starts.proofs.start_in_place.Goals as goal
-
-pub take_into-requires : goal.take_into-requires
-take_into-requires c = start_plan c.args.set _ c.args.xi.now (sym c.in-None.ensures)
-
-pub multipliers_in-requires : goal.multipliers_in-requires
-multipliers_in-requires c = start_xi c.args.set _ c.args.xi.now (sym c.in-None.ensures)
-
-pub multipliers_in-requires-in-None : goal.multipliers_in-requires-in-None
-multipliers_in-requires-in-None c = start_xi c.args.set _ c.args.xi.now (sym c.in-None.ensures)
-
-pub overflow_sub-set : goal.overflow_sub-set
-overflow_sub-set c = start_left c.args.set _ c.args.xi.now (sym c.in-None.ensures)
 
 pub begins-requires : goal.begins-requires
 begins-requires c = start_ready c.args.set _ c.args.xi.now (sym c.in-None.ensures) _ _ c.first.ensures
