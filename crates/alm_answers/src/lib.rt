@@ -1,5 +1,5 @@
 // Which handler of the loop takes an answer: one of the inner solve, by its own dispatch, or one of the loop. Each arm lends its
-// handler the vectors that it works on.
+// handler the vectors that it works on. That nothing refuses the answer is a clause and no invariant: image::lent says why.
 #![tactic(auto)]
 
 ghost use Rattle.std.specs.Prelude.{◌≡◌, true, length};
@@ -21,7 +21,7 @@ use alm_inner::on_inner;
 use image::lent::Vectors;
 use panoc_core::panoc_cache::Reply;
 
-// A vector that the loop itself asked for.
+// A vector that the loop itself asked for. One match over the phase: each arm is another handler.
 fn on_vector<'a>(s: Alm, v: &[f64], at: OwnVectors<'a>) -> AlmStepped
     requires { (answer_refusal (wanted_of s) (reply_of Vector) (length v.now) true ≡ 0) × (s.phase ≡ P.Inner → ⊥) }
     ensures { (b : LoopBoard) → Takes s (own_held at.entry b) Vector v.now (told result) (own_left at.exit b) }
@@ -84,8 +84,7 @@ pub fn take<'a>(s: Alm, a: Reply, v: &[f64], at: LoopVectors<'a>) -> AlmStepped
         let r = panoc_answers::take(s.solve, a, v, inner);
         return on_inner(s, r, OuterVectors { u, best, y, plus });
     }
-    // named, since a record with a vector lent on is not covered by the borrow checker as the last expression
-    let r = take_own(
+    return take_own(
         s,
         a,
         v,
@@ -98,5 +97,4 @@ pub fn take<'a>(s: Alm, a: Reply, v: &[f64], at: LoopVectors<'a>) -> AlmStepped
             w,
         },
     );
-    r
 }

@@ -23,9 +23,6 @@ returns-in-ProjectY c = λ b. c.on_project_y.ensures (own_held c.args.at b)
 pub returns-in-F1 : goal.returns-in-F1
 returns-in-F1 c = λ b. rw (c.on_f1.ensures.vectors.0, c.on_f1.ensures.vectors.1) (c.on_f1.ensures.goes (own_held c.args.at b))
 
-pub returns-in-ProjectC : goal.returns-in-ProjectC
-returns-in-ProjectC c = c.on_project_c.ensures.goes
-
 pub returns-in-F2 : goal.returns-in-F2
 returns-in-F2 c = λ b. rw (c.on_f2.ensures.vectors.4) (c.on_f2.ensures.goes (own_held c.args.at b))
 

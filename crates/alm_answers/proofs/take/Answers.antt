@@ -18,8 +18,5 @@ returns-in-Inner c =
     inner_takes c.args.s (held c.args.at)
     c.args.a c.args.v.now _ _ c.requires c.in-Inner.is c.take-r.ensures _ _ _ c.on_inner.ensures
 
-pub take_own-r-requires : goal.take_own-r-requires
-take_own-r-requires c = (c.requires, c.in_default.not-Inner)
-
 pub returns : goal.returns
-returns c = c.take_own-r.ensures (held c.args.at)
+returns c = c.take_own.ensures (held c.args.at)

@@ -1,13 +1,10 @@
 use mathlib.Core.Bool.{true, false}
-use Rattle.alm_calls.proofs.LoopLaws.{number_phase, decision_phase, refusal_of, took_number, took_vector, took_decision, took_failure}
+use Rattle.alm_calls.proofs.LoopLaws.{number_phase, decision_phase, refusal_of, took_number, took_decision, took_failure}
 use Rattle.alm_core.specs.LentLoop.{own_held}
 use Rattle.alm_answers.proofs.take_own.Goals as goal
 
 pub on_last_cost-requires : goal.on_last_cost-requires
 on_last_cost-requires c = number_phase c.args.s _ _ (refusal_of c.args.s _ c.in-Number.is c.requires.0) c.requires.1
-
-pub on_vector-requires : goal.on_vector-requires
-on_vector-requires c = ((refusal_of c.args.s _ c.in-Vector.is c.requires.0), c.requires.1)
 
 pub on_time-requires : goal.on_time-requires
 on_time-requires c = decision_phase c.args.s true _ (refusal_of c.args.s _ c.in-Yes.is c.requires.0) c.requires.1
@@ -17,9 +14,6 @@ on_time-requires-in-No c = decision_phase c.args.s false _ (refusal_of c.args.s 
 
 pub returns-in-Number : goal.returns-in-Number
 returns-in-Number c = λ b. took_number c.args.s (own_held c.args.at b) _ _ _ _ _ c.in-Number.is (c.on_last_cost.ensures (own_held c.args.at b))
-
-pub returns-in-Vector : goal.returns-in-Vector
-returns-in-Vector c = λ b. took_vector c.args.s (own_held c.args.at b) _ _ _ _ c.in-Vector.is (c.on_vector.ensures b)
 
 pub returns-in-Yes : goal.returns-in-Yes
 returns-in-Yes c = λ b. took_decision c.args.s (own_held c.args.at b) _ _ _ _ true c.in-Yes.is (c.on_time.ensures (own_held c.args.at b))
