@@ -1,28 +1,26 @@
 -- The second point of a lent loop's question. Assumes nothing.
-use Prim.Native.Nat.{ℕ, zero, suc, ◌≤◌}
-use mathlib.Core.Path.{◌≡◌, refl, sym, ap, ◌∙◌}
+use Prim.Native.Nat.{ℕ, ◌≤◌}
+use mathlib.Core.Path.{◌≡◌, refl, ap, ◌∙◌}
 use mathlib.Core.Bool.{Bool, true, false, cond, ◌&&◌}
 use mathlib.Core.List.{List, []}
 use mathlib.Core.Option.{Option, none, some}
 use native.Mathlib.Omega.{arith}
 use lib.Dec.{eqb}
-use lib.Ieee.{Float, binary64, of_bits, nan}
+use lib.Ieee.{Float}
 use lib.ListN.{length, get_or}
 use Rattle.matrix_operations.specs.Firsts.{firsts}
 use Rattle.matrix_operations.specs.Laws.{length_firsts}
 use Rattle.model.specs.Process as M
-use Rattle.model.specs.Refusals.{xi_length}
-use Rattle.panoc_core.specs.Board as Inner
 use Rattle.panoc_core.specs.Board.{waiting}
 use Rattle.alm_core.specs.declared.alm_cache.Alm.{Alm}
 use Rattle.alm_core.specs.declared.alm_cache.AlmPhase.TheVariants as P
 use Rattle.alm_core.specs.Rest.{LoopBoard}
 use Rattle.alm_core.specs.Board.{Sound}
 use Rattle.alm_core.specs.Values.{first_point, second_point}
-use Rattle.alm_calls.specs.LoopCalls.{wanted_of, run_of, points_refusal, xi_given}
+use Rattle.alm_calls.specs.LoopCalls.{wanted_of, run_of, points_refusal}
 use Rattle.alm_vectors.specs.LoopPoints.{carries_xi, first_places, second_places, first_at, second_at_phase}
-use Rattle.alm_points.specs.LoopPointLaws.{points_over, points_second, points_given, places_with, places_without}
-use Rattle.alm_vectors.specs.VectorLaws.{room_with, room_without, second_with, second_without, sound_wide, sound_inner, xi_room}
+use Rattle.alm_points.specs.LoopPointLaws.{points_over, points_second, points_given}
+use Rattle.alm_vectors.specs.VectorLaws.{room_with, room_without, sound_wide, sound_inner, xi_room}
 use Rattle.image.specs.Image as I
 use Rattle.alm_image.specs.AlmImage.{phase_of, alm_of}
 use Rattle.host_loop_second.specs.Second.{Second, second_refusal}
@@ -79,7 +77,7 @@ module _ (s : Alm) (b : LoopBoard) (ys : List Float) (t : Bool) (te : t ≡ wait
         let g = points_given s b first_like second_like t te q (first_at s b s.phase first_like) (second_at_phase s b.inner.u b.y s.phase second_like) (length_firsts _ _) (length_firsts _ _) refl refl in
         record { number = unfit _ _ _ _ g.number (points_second s b first_like ys t te q (length_firsts _ _) h).number; kept = λ m e. refl; point = λ e. absurd (omega arith) }
 
--- ---- the places and the point, by the number of the phase
+-- ---- room for the point, by the number of the phase
 module _ (w k : List ℕ) (f : List Float) (lw lk : List ℕ) (lf : List Float) where
   abbrev loop : Alm
   loop = alm_of w k f lw lk lf
@@ -88,12 +86,6 @@ module _ (w k : List ℕ) (f : List Float) (lw lk : List ℕ) (lf : List Float) 
     at : second_places loop (phase_of (get_or lw 0 0)) ≡ second_places loop P.Inner
     at = ap (λ (m : ℕ). second_places loop (phase_of m)) p
 
-    pub places_xi : (r : ℕ) → t ≡ true → r ≡ xi_length (get_or lk 5 0) (get_or lk 6 0) → r ≡ second_places loop (phase_of (get_or lw 0 0))
-    places_xi r q e = places_with loop t te q e ∙ sym at
-
-    pub places_own : (r : ℕ) → t ≡ false → r ≡ Inner.second_places (get_or k 3 0) (I.phase_of (get_or w 0 0)) → r ≡ second_places loop (phase_of (get_or lw 0 0))
-    places_own r q e = places_without loop t te q e ∙ sym at
-
     module _ (ok : Sound loop) (ys : List Float) (h : length ys ≡ second_places loop (phase_of (get_or lw 0 0))) where
       pub room_xi : t ≡ true → length ys ≤ 33
       room_xi q = room_with loop t te q (sound_wide loop ok).1 (h ∙ at)
@@ -101,46 +93,7 @@ module _ (w k : List ℕ) (f : List Float) (lw lk : List ℕ) (lf : List Float) 
       pub room_own : t ≡ false → length ys ≤ 64
       room_own q = room_without loop t te q (sound_inner loop ok (ap phase_of p)) (h ∙ at)
 
-    module _ (u y ys ys' : List Float) where
-      there : second_at_phase loop u y P.Inner ys ≡ second_at_phase loop u y (phase_of (get_or lw 0 0)) ys
-      there = sym (ap (λ (m : ℕ). second_at_phase loop u y (phase_of m) ys) p)
-
-      pub filled_xi : t ≡ true → ys' ≡ xi_given (get_or lf 0 nan) y ys → ys' ≡ second_at_phase loop u y (phase_of (get_or lw 0 0)) ys
-      filled_xi q e = second_with loop t te u y ys q e ∙ there
-
-      pub filled_own : t ≡ false → ys' ≡ firsts (length ys) u → ys' ≡ second_at_phase loop u y (phase_of (get_or lw 0 0)) ys
-      filled_own q e = second_without loop t te u y ys q e ∙ there
-
   -- the last COST
   module _ (p : get_or lw 0 0 ≡ 7) where
-    pub places_last : (r : ℕ) → r ≡ xi_length (get_or lk 5 0) (get_or lk 6 0) → r ≡ second_places loop (phase_of (get_or lw 0 0))
-    places_last r e = e ∙ sym (ap (λ (m : ℕ). second_places loop (phase_of m)) p)
-
     pub room_last : (ys : List Float) → Sound loop → length ys ≡ second_places loop (phase_of (get_or lw 0 0)) → length ys ≤ 33
     room_last ys ok h = omega (arith, xi_room (get_or lk 5 0) (get_or lk 6 0) (sound_wide loop ok).1, h ∙ ap (λ (m : ℕ). second_places loop (phase_of m)) p)
-
-    pub filled_last : (u y ys ys' : List Float) → ys' ≡ xi_given (of_bits binary64 0) y ys → ys' ≡ second_at_phase loop u y (phase_of (get_or lw 0 0)) ys
-    filled_last u y ys ys' e = e ∙ sym (ap (λ (m : ℕ). second_at_phase loop u y (phase_of m) ys) p)
-
--- the others have none
-pub places_none : (s : Alm) (p : ℕ) → (p ≡ 3 → ⊥) → (p ≡ 7 → ⊥) → 0 ≡ second_places s (phase_of p)
-places_none s zero h j = refl
-places_none s (suc zero) h j = refl
-places_none s (suc (suc zero)) h j = refl
-places_none s (suc (suc (suc zero))) h j = absurd (h refl)
-places_none s (suc (suc (suc (suc zero)))) h j = refl
-places_none s (suc (suc (suc (suc (suc zero))))) h j = refl
-places_none s (suc (suc (suc (suc (suc (suc zero)))))) h j = refl
-places_none s (suc (suc (suc (suc (suc (suc (suc zero))))))) h j = absurd (j refl)
-places_none s (suc (suc (suc (suc (suc (suc (suc (suc n)))))))) h j = refl
-
-pub filled_none : (s : Alm) (u y ys : List Float) (p : ℕ) → (p ≡ 3 → ⊥) → (p ≡ 7 → ⊥) → ys ≡ second_at_phase s u y (phase_of p) ys
-filled_none s u y ys zero h j = refl
-filled_none s u y ys (suc zero) h j = refl
-filled_none s u y ys (suc (suc zero)) h j = refl
-filled_none s u y ys (suc (suc (suc zero))) h j = absurd (h refl)
-filled_none s u y ys (suc (suc (suc (suc zero)))) h j = refl
-filled_none s u y ys (suc (suc (suc (suc (suc zero))))) h j = refl
-filled_none s u y ys (suc (suc (suc (suc (suc (suc zero)))))) h j = refl
-filled_none s u y ys (suc (suc (suc (suc (suc (suc (suc zero))))))) h j = absurd (j refl)
-filled_none s u y ys (suc (suc (suc (suc (suc (suc (suc (suc n)))))))) h j = refl

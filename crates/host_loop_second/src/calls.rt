@@ -13,6 +13,7 @@ use panoc_wanted::waits;
 
 // The second point of the question of a run alone: xi or u. 0, or 6 where the run has ended and 8 where the slice is not as long as that point.
 // host_c has a function of this name that calls this one: a crate is a library or a static library, not both.
+#[tactic(auto, using(alm_points::specs::LoopPointLaws::waiting_sound))]
 #[unsafe(no_mangle)]
 pub extern "C" fn pozkerrin_loop_second(
     w: &[u32; 6],

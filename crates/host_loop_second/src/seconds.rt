@@ -35,6 +35,7 @@ pub fn places<'a>(run: LoopRead<'a>) -> usize
 }
 
 // The second point of the question.
+#[tactic(auto, using(crate::proofs::SecondLaws::room_xi, crate::proofs::SecondLaws::room_own, crate::proofs::SecondLaws::room_last))]
 pub fn fill_second<'a>(run: LoopRead<'a>, second: &mut [f64], u: &[f64; 64], y: &[f64; 64])
     requires { (Sound (loop_in run)) × (length second.old ≡ second_places (loop_in run) (loop_phase_in run)) }
     ensures { second.new ≡ second_at_phase (loop_in run.entry) u.now y.now (loop_phase_in run.entry) second.old }

@@ -3,14 +3,10 @@ use Rattle.image.specs.Image as I
 use Rattle.host_loop_place.proofs.PlaceLaws.{lies}
 use Rattle.host_loop_place.specs.Places.{place_of}
 use Rattle.std.proofs.Math.ListN.{get_or}
-use Rattle.alm_image.proofs.Phases.{not_inner}
 use Rattle.alm_image.specs.AlmImage.{phase_of, alm_of}
 use Rattle.alm_core.specs.declared.alm_cache.AlmPhase.{AlmPhase}
 use Rattle.std.proofs.Common.{ap, sym, ◌∙◌}
 use Rattle.host_loop_place.proofs.pozkerrin_loop_place.Goals as goal
-
-pub own_place_of-requires : goal.own_place_of-requires
-own_place_of-requires c = λ e. not_inner _ c.if-lw.false (sym c.alm_phase_of.ensures ∙ e)
 
 pub returns-then-lw : goal.returns-then-lw
 returns-then-lw c = λ k lk f lf b. lies (alm_of c.args.w.now k f c.args.lw.now lk lf) b _ (c.place_of.ensures ∙ ap Inner.place_of c.phase_of.ensures ∙ ap (λ (p : AlmPhase). place_of p (I.phase_of (get_or c.args.w.now 0 0))) (sym (ap phase_of c.if-lw.true)))

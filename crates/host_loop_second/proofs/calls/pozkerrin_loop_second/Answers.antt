@@ -13,9 +13,6 @@ places-requires c = (sound_wide (alm_of c.args.w.now c.args.k.now c.args.f.now c
 pub returns-then-second-places : goal.returns-then-second-places
 returns-then-second-places c = λ b. rw c.number-then-second-places.ensures (second_refused (alm_of c.args.w.now c.args.k.now c.args.f.now c.args.lw.now c.args.lk.now c.args.lf.now) (set_u c.args.u.now (set_y c.args.y.now b)) c.args.second.now _ (c.waits.ensures ∙ ap waiting c.wants.ensures) c.if-not-waits.false (λ e. c.if-second-places.true (e ∙ sym c.places.ensures)))
 
-pub fill_second-requires : goal.fill_second-requires
-fill_second-requires c = ((waiting_sound (alm_of c.args.w.now c.args.k.now c.args.f.now c.args.lw.now c.args.lk.now c.args.lf.now) _ (c.waits.ensures ∙ ap waiting c.wants.ensures) c.if-not-waits.false), c.if-second-places.false ∙ c.places.ensures)
-
 pub returns : goal.returns
 returns c = λ b. second_given (alm_of c.args.w.now c.args.k.now c.args.f.now c.args.lw.now c.args.lk.now c.args.lf.now) (set_u c.args.u.now (set_y c.args.y.now b)) c.args.second.now _ (c.waits.ensures ∙ ap waiting c.wants.ensures) c.if-not-waits.false _ (c.if-second-places.false ∙ c.places.ensures) c.fill_second.ensures
 
