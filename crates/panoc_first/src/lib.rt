@@ -30,7 +30,7 @@ pub fn on_direction<'a>(v: &[f64], run: Lent<'a>, at: Vectors<'a>) -> Outcome
     linesearch(v, run, at)
 }
 
-// COST at the first iterate is x.
+// COST at the first iterate is x. As panoc_search::on_tried_cost, but with another phase, and so another law of its phase.
 #[tactic(auto, using(panoc_core::specs::Laws::first_cost_goes))]
 pub fn on_first_cost<'a>(x: f64, run: Lent<'a>) -> Outcome
     requires { (Sound (small run)) × (phase_in run ≡ Phase.FirstCost) }
