@@ -148,6 +148,11 @@ module _ (w k : List ℕ) (f : List Float) (lw lk : List ℕ) (lf : List Float) 
 
   -- the loop goes on from x, read off the numbers, and has come to o
   module _ (x : Step) (q : Alm) (ex : x ≡ I.step_of r w k f) (eq : q ≡ told) where
+    pub carry_on_may : Ready told → get_or k 3 0 ≡ get_or lk 4 0 → EndsWithin (numbered r) → (Ready q) × (x.state.set.n ≡ q.set.n) × EndsWithin x.outcome
+    carry_on_may h n z =
+        subst (λ (c : Alm). (Ready c) × (x.state.set.n ≡ c.set.n) × EndsWithin x.outcome) (sym eq)
+        (subst (λ (c : Step). (Ready told) × (c.state.set.n ≡ told.set.n) × EndsWithin c.outcome) (sym ex) (h, n, z))
+
     module _ (o : LoopStep) (u best y plus u' y' : List Float) (c : (b : LoopBoard) → Carries q x (four u best y plus b) o (four u' best y' plus b)) where
       carries_as : (b : LoopBoard) → Carries told (I.step_of r w k f) (four u best y plus b) o (four u' best y' plus b)
       carries_as b =
