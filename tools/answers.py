@@ -1,6 +1,5 @@
 #!/usr/bin/env python3
-"""answers.py CRATE..: in this checkout, takes the answers of each function out, asks the check which it does not find by itself, and keeps only those. Prints a line for each function."""
-import os
+"""answers.py CRATE..: in this checkout, takes all answers of a crate out, asks the check which it does not find by itself, and keeps those. Prints a line for each crate: two checks each."""
 import pathlib
 import re
 import subprocess
@@ -8,6 +7,8 @@ import sys
 
 ROOT = pathlib.Path(__file__).resolve().parent.parent / "crates"
 NAMED = re.compile(r"pub ([^ ]+) : ")
+ASKED = re.compile(r"`([^`]+)` of (proofs/[^ ]*Answers\.antt) must prove")
+EXPECTED = re.compile(r"expected answers in \./(proofs/[^ ]*Answers\.antt); `search` did not prove ((?:`[^`]+`(?:, )?)+)")
 
 
 def check(crate):
@@ -18,7 +19,7 @@ def check(crate):
 
 
 def parts(text):
-    """The imports of a file of answers, and its answers by name."""
+    """The imports of a file of answers with what else stands before them, and its answers by name."""
     lines = text.split("\n")
     starts = [i for i, line in enumerate(lines) if NAMED.match(line)]
     begins = []
@@ -31,27 +32,46 @@ def parts(text):
     return "\n".join(lines[: begins[0]] if begins else lines).rstrip(), found
 
 
-def tried(crate, path):
-    text = path.read_text()
-    head, found = parts(text)
-    names = [name for name, _ in found]
-    path.unlink()
+def asked(said):
+    """The answers that a check asks for, by file."""
+    names = {}
+    for name, path in ASKED.findall(said):
+        names.setdefault(path, set()).add(name)
+    for path, listed in EXPECTED.findall(said):
+        names.setdefault(path, set()).update(re.findall(r"`([^`]+)`", listed))
+    return names
+
+
+def put_back(files):
+    for path, text in files.items():
+        path.parent.mkdir(parents=True, exist_ok=True)
+        path.write_text(text)
+
+
+def tried(crate):
+    if not check(crate)[1]:
+        return "is not proved"
+    files = {path: path.read_text() for path in sorted((ROOT / crate / "proofs").rglob("Answers.antt"))}
+    if not files:
+        return "has none"
+    for path in files:
+        path.unlink()
     said, proved = check(crate)
     if proved:
-        return f"all out: {', '.join(names)}"
-    needed = set(re.findall(r"pub ([^ ]+) : goal\.", said))
-    kept = [(name, answer) for name, answer in found if name in needed or "goal." not in answer]
-    if needed and len(kept) < len(found):
-        path.write_text(head + "\n\n" + "\n\n".join(answer for _, answer in kept) + "\n")
-        if check(crate)[1]:
-            return f"out: {', '.join(sorted(set(names) - {name for name, _ in kept}))}"
-    path.write_text(text)
+        return "all out"
+    needed, gone = asked(said), []
+    for path, text in files.items():
+        name = str(path.relative_to(ROOT / crate))
+        head, found = parts(text)
+        kept = [answer for answer_name, answer in found if answer_name in needed.get(name, ()) or "goal." not in answer]
+        gone += [f"{path.parent.name} {answer_name}" for answer_name, answer in found if answer not in kept]
+        if any("goal." in answer for answer in kept):
+            put_back({path: head + "\n\n" + "\n\n".join(kept) + "\n"})
+    if gone and check(crate)[1]:
+        return f"out: {', '.join(gone)}"
+    put_back(files)
     return "all stay"
 
 
 for crate in sys.argv[1:]:
-    if not check(crate)[1]:
-        print(crate, "is not proved", flush=True)
-        continue
-    for path in sorted((ROOT / crate / "proofs").rglob("Answers.antt")):
-        print(crate, os.path.relpath(path.parent, ROOT / crate / "proofs"), tried(crate, path), flush=True)
+    print(crate, tried(crate), flush=True)
