@@ -20,8 +20,5 @@ carry-requires c = carry_may c.args.w.now c.args.k.now c.args.f.now c.args.lw.no
 pub returns-then-lw : goal.returns-then-lw
 returns-then-lw c = λ b. carried_answers c.args.w.now c.args.k.now c.args.f.now c.args.lw.now c.args.lk.now c.args.lf.now (Number c.args.x) [] c.args.plan.now c.args.xi.now (accepted_as (Number c.args.x) [] c.args.plan.now c.args.xi.now c.args.w.now c.args.k.now c.args.f.now c.args.lw.now c.args.lk.now c.args.lf.now c.wants-wanted.result c.wants-wanted.ensures c.fits-fits.result _ c.fits-fits.ensures c.in_default.ensures refl) c.if-lw.true (eight c.args.u.now c.args.gradient.now c.args.step.now c.args.half.now c.args.fpr.now c.args.best.now c.args.y.now c.args.plus.now b) _ c.on_number-o.result c.on_number-o.new.run.0 c.on_number-o.new.run.1.0 c.on_number-o.new.run.1.1.0 (c.on_number-o.ensures (set_best c.args.best.now b.inner)) _ _ _ _ _ c.carry.ensures
 
-pub own_number-requires : goal.own_number-requires
-own_number-requires c = (accepted_as (Number c.args.x) [] c.args.plan.now c.args.xi.now c.args.w.now c.args.k.now c.args.f.now c.args.lw.now c.args.lk.now c.args.lf.now c.wants-wanted.result c.wants-wanted.ensures c.fits-fits.result _ c.fits-fits.ensures c.in_default.ensures refl, c.if-lw.false)
-
 pub returns : goal.returns
 returns c = λ b. c.own_number.ensures (eight c.args.u.now c.args.gradient.now c.args.step.now c.args.half.now c.args.fpr.now c.args.best.now c.args.y.now c.args.plus.now b)
