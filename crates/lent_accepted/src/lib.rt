@@ -17,6 +17,7 @@ use panoc_answers::lent::take_lent;
 use panoc_core::panoc_cache::Reply;
 
 // To a question of the inner solve.
+#[tactic(auto, using(lent_loop::specs::Laws::take_may))]
 fn answer_inner<'a>(
     run: LoopLent<'a>,
     a: Reply,

@@ -64,6 +64,7 @@ pub fn own_number<'a>(
 }
 
 // An answer to a question of the loop itself.
+#[tactic(auto, using(lent_loop::specs::Laws::own_may, alm_image::proofs::Phases::not_inner))]
 pub fn own<'a, 'b>(
     run: LoopLent<'a>,
     a: Reply,
