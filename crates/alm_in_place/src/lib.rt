@@ -16,6 +16,7 @@ use panoc_plan::hand_out;
 
 // An answer to the question of a run in place: the plan and the multipliers go into the lent slices.
 // As panoc_in_place::answer_in_place, whose vectors are others and which lends no xi: one for both would take the test and the hand-outs as closures.
+#[tactic(auto, using(alm_calls::proofs::LoopLaws::refusal_wanted, alm_calls::proofs::LoopLaws::answer_fits, alm_calls::proofs::LoopLaws::answer_plan, alm_calls::proofs::LoopLaws::answer_xi))]
 pub fn answer_in_place<'a>(
     s: Alm,
     a: Reply,

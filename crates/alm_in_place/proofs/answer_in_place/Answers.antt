@@ -1,20 +1,8 @@
 use Rattle.std.proofs.Common.{refl}
 use Rattle.panoc_core.specs.Numbers.{refusal_some}
 use Rattle.alm_core.specs.LentLoop.{held}
-use Rattle.alm_calls.proofs.LoopLaws.{refusal_wanted, answer_fits, answer_plan, answer_xi, answer_goes, answer_refused}
+use Rattle.alm_calls.proofs.LoopLaws.{refusal_wanted, answer_goes, answer_refused}
 use Rattle.alm_in_place.proofs.answer_in_place.Goals as goal
-
-pub take-r-requires : goal.take-r-requires
-take-r-requires c =
-    answer_fits c.args.s (held c.args.at) c.args.a c.args.v.now c.args.plan.now c.args.xi.now _ _ c.lent_fits-fits.ensures (refusal_wanted c.args.s c.wants.result c.args.a _ _ c.wants.ensures c.in-None.ensures) refl
-
-pub hand_out-requires : goal.hand_out-requires
-hand_out-requires c =
-    answer_plan c.args.s (held c.args.at) c.args.a c.args.v.now c.args.plan.now c.args.xi.now _ _ c.lent_fits-fits.ensures (refusal_wanted c.args.s c.wants.result c.args.a _ _ c.wants.ensures c.in-None.ensures) refl
-
-pub hand_out_xi-requires : goal.hand_out_xi-requires
-hand_out_xi-requires c =
-    answer_xi c.args.s (held c.args.at) c.args.a c.args.v.now c.args.plan.now c.args.xi.now _ _ c.lent_fits-fits.ensures (refusal_wanted c.args.s c.wants.result c.args.a _ _ c.wants.ensures c.in-None.ensures) refl
 
 pub returns-in-None : goal.returns-in-None
 returns-in-None c =
