@@ -57,6 +57,19 @@ pub sized_is : (s : Alm) → s.set.n ≤ 64 → s.set.n1 ≤ 32 → s.set.n2 ≤
 unfolding sized
 sized_is s a b c = rw (le-leb _ _ a, le-leb _ _ b, le-leb _ _ c)
 
+pub sound_last : (s : Alm) (t : Bool) → t ≡ sized s → t ≡ true → s.phase ≡ P.LastCost → true ≡ sound s
+unfolding sound
+sound_last s t e q p = sym (ap (λ (c : Bool). c && (is_last s.phase || counts s)) (sym e ∙ q) ∙ ap (λ (z : AlmPhase). is_last z || counts s) p)
+
+pub sound_other : (s : Alm) (p : AlmPhase) (t c : Bool) → t ≡ sized s → t ≡ true → s.phase ≡ p → is_last p ≡ false → c ≡ counts s → c ≡ sound s
+unfolding sound
+sound_other s p t c e q w l d =
+    d ∙ sym (ap (λ (b : Bool). b && (is_last s.phase || counts s)) (sym e ∙ q) ∙ ap (λ (z : AlmPhase). is_last z || counts s) w ∙ ap (λ (b : Bool). b || counts s) l)
+
+pub sound_not : (s : Alm) (t : Bool) → t ≡ sized s → t ≡ false → false ≡ sound s
+unfolding sound
+sound_not s t e q = sym (ap (λ (b : Bool). b && (is_last s.phase || counts s)) (sym e ∙ q))
+
 pub sound_sized : (s : Alm) → Sound s → sized s ≡ true
 unfolding sound
 sound_sized s h = by (sized s) h

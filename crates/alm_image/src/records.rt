@@ -1,7 +1,7 @@
 // A loop that lies in lent arrays, as records of references: the numbers of its inner solve, and its own, laid out as specs/AlmImage.antt has
 // them. A call for C puts them together, what works on the loop takes them whole.
-// Of two calls that each take the same record put together anew, the first names it, and a call of one that ends a function is a `return`: else
-// the borrow checker does not cover them.
+// Of two calls that each take the same record put together anew, the first names it, and a call that ends a function with a record put together
+// from another's fields is a `return`: else the borrow checker does not cover them.
 
 // What writes.
 #[derive(Drop)]

@@ -1,5 +1,5 @@
 // A run of psi or d_psi that lies in lent arrays, as records of references, laid out as specs/PsiImage.antt has it; f has three places for
-// psi and one for d_psi. A call for C puts them together, what works on the run takes them whole.
+// psi and one for d_psi. A call for C puts them together, what works on the run takes them whole; what d_psi tells is w alone.
 
 // What writes.
 #[derive(Drop)]
