@@ -32,7 +32,7 @@ use Rattle.factory.specs.FactoryValues.{sizes_of, question_of, d_psi_tells, DPsi
 use Rattle.factory.specs.FactoryRest.{d_psi_resume, d_psi_rest}
 use Rattle.factory.specs.FactoryCalls.{DPsiAnswers}
 use Rattle.factory.specs.FactoryBoard.{Sound, at, run_of, gave, stepped, DPsiComes, DPsiTakes, d_psi_f2_at, d_psi_kind_at, d_psi_kind, d_psi_g, d_psi_gw, d_psi_d, d_psi_ytw, d_psi_tdw}
-use Rattle.factory.specs.FactoryLaws.{taken, sound_n, accepted_number, accepted_yes, accepted_no, accepted_true, accepted_result}
+use Rattle.factory.specs.FactoryLaws.{taken, sound_n, accepted_number, accepted_yes, accepted_no, accepted_length, accepted_true, accepted_result}
 use Rattle.factory.specs.FactoryPenalties.{d_psi_ends, d_psi_kinds}
 use Rattle.factory.specs.FactoryRuns.{takes_vector, asks_comes, ends_comes, fails_comes, accepted_at, wanted_is, takes_failure}
 
@@ -64,14 +64,27 @@ module _ (s : DPsiState) (a : Reply) (vs : ℕ) (e : answer_refusal (d_psi_kind 
   pub number_refused : (x : Float) → a ≡ Number x → ⊥
   number_refused x q = vectors_alone s.sizes s.phase Kind.number number_not (accepted_number _ x vs true (answered (Number x) q))
 
-  pub yes_refused : a ≡ Yes → ⊥
-  yes_refused q = vectors_alone s.sizes s.phase Kind.decision decision_not (accepted_yes _ vs true (answered Yes q))
-
-  pub no_refused : a ≡ No → ⊥
-  no_refused q = vectors_alone s.sizes s.phase Kind.decision decision_not (accepted_no _ vs true (answered No q))
+  pub decision_refused : (a ≡ Yes → ⊥) × (a ≡ No → ⊥)
+  decision_refused =
+      (λ q. vectors_alone s.sizes s.phase Kind.decision decision_not (accepted_yes _ vs true (answered Yes q)), λ q. vectors_alone s.sizes s.phase Kind.decision decision_not (accepted_no _ vs true (answered No q)))
 
   pub vector_accepted : a ≡ Vector → answer_refusal (d_psi_kind s) R.Reply.vector vs true ≡ 0
   vector_accepted q = subst (λ (z : Reply). answer_refusal (d_psi_kind s) (reply_of z) vs true ≡ 0) q e
+
+-- a vector that is accepted has the places that the run waits for
+pub vector_waits : (s : DPsiState) (vs : ℕ) → answer_refusal (d_psi_kind s) R.Reply.vector vs true ≡ 0
+    → (Sound s.sizes) × (s.phase ≡ P.Gradient → vs ≡ s.sizes.n) × (s.phase ≡ P.F1 → vs ≡ s.sizes.n1) × (s.phase ≡ P.ProjectC → vs ≡ s.sizes.n1)
+    × (s.phase ≡ P.Jf1t → vs ≡ s.sizes.n) × (s.phase ≡ P.F2 → vs ≡ s.sizes.n2) × (s.phase ≡ P.Jf2t → vs ≡ s.sizes.n)
+vector_waits s vs e =
+    let at : (p : DPsiPhase) → s.phase ≡ p → (Sound s.sizes) × (answer_refusal (d_psi_kind_at s.sizes p) R.Reply.vector vs true ≡ 0) = accepted_at d_psi_kind_at s R.Reply.vector vs true e in (
+      (at s.phase refl).0,
+      λ q. accepted_length _ vs true (at P.Gradient q).1,
+      λ q. accepted_length _ vs true (at P.F1 q).1,
+      λ q. accepted_length _ vs true (at P.ProjectC q).1,
+      λ q. accepted_length _ vs true (at P.Jf1t q).1,
+      λ q. accepted_length _ vs true (at P.F2 q).1,
+      λ q. accepted_length _ vs true (at P.Jf2t q).1,
+    )
 
 -- ---- an answer of the kind asked
 vector_taken : (s : DPsiState) (b b' : DPsiBoard) (r : DPsiStep) → Sound s.sizes → (p : DPsiPhase) → s.phase ≡ p → (q : M.PsiQuestion) (v : List Float) (n : ℕ) (continue : List Float → M.DPsi)

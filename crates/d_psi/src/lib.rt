@@ -122,7 +122,7 @@ fn on_jf2t(s: DPsiState, v: &[f64], gradient: &mut [f64; 64], work: &mut [f64; 6
 }
 
 // A vector that was asked for: each phase has a handler of its own, with the vectors that it needs.
-#[tactic(auto, using(factory::specs::FactoryRuns::vector_not_over))]
+#[tactic(auto, using(factory::specs::FactoryRuns::vector_not_over, crate::proofs::DPsiLaws::vector_waits))]
 fn on_vector<'a>(s: DPsiState, v: &[f64], at: DPsiVectors<'a>) -> DPsiStepped
     requires { answer_refusal (d_psi_kind s) (reply_of Reply.Vector) (length v.now) true ≡ 0 }
     ensures { (b : DPsiBoard) → DPsiTakes s (d_psi_held at.entry b) Reply.Vector v.now (told result) (d_psi_left at.exit b) }
@@ -145,7 +145,7 @@ fn on_vector<'a>(s: DPsiState, v: &[f64], at: DPsiVectors<'a>) -> DPsiStepped
 }
 
 // An answer that nothing refuses: each kind goes to another handler. A result stays in the gradient.
-#[tactic(auto, using(crate::proofs::DPsiLaws::vector_accepted, crate::proofs::DPsiLaws::number_refused, crate::proofs::DPsiLaws::yes_refused, crate::proofs::DPsiLaws::no_refused))]
+#[tactic(auto, using(crate::proofs::DPsiLaws::vector_accepted, crate::proofs::DPsiLaws::number_refused, crate::proofs::DPsiLaws::decision_refused))]
 fn step<'a>(s: DPsiState, a: Reply, v: &[f64], at: DPsiVectors<'a>) -> DPsiStepped
     requires { answer_refusal (d_psi_kind s) (reply_of a) (length v.now) true ≡ 0 }
     ensures { (b : DPsiBoard) → DPsiTakes s (d_psi_held at.entry b) a v.now (told result) (d_psi_left at.exit b) }
@@ -158,6 +158,7 @@ fn step<'a>(s: DPsiState, a: Reply, v: &[f64], at: DPsiVectors<'a>) -> DPsiStepp
 }
 
 // An answer to the question of a run in place: v is the vector where one is answered, and the result goes into the lent slice.
+#[tactic(auto, using(crate::proofs::DPsiLaws::step_fits, crate::proofs::DPsiLaws::result_fits))]
 pub fn answer_in_place<'a>(
     s: DPsiState,
     a: Reply,

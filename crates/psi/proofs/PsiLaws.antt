@@ -33,7 +33,7 @@ use Rattle.factory.specs.FactoryValues.{psi_tells, PsiState, PsiStep}
 use Rattle.factory.specs.FactoryRest.{psi_resume, psi_rest}
 use Rattle.factory.specs.FactoryCalls.{PsiReaches, PsiAnswers}
 use Rattle.factory.specs.FactoryBoard.{Sound, run_of, gave, with_value, stepped, PsiTakes, psi_f2_at, psi_kind_at, psi_kind, psi_w, psi_tw}
-use Rattle.factory.specs.FactoryLaws.{taken, accepted_number, accepted_yes, accepted_no, vector_for_number}
+use Rattle.factory.specs.FactoryLaws.{taken, accepted_number, accepted_yes, accepted_no, accepted_length, vector_for_number}
 use Rattle.factory.specs.FactoryPenalties.{psi_ends, psi_kinds}
 use Rattle.factory.specs.FactoryRuns.{takes_number, takes_vector, asks_comes, ends_comes, fails_comes, accepted_at, wanted_is, takes_failure}
 
@@ -53,27 +53,25 @@ decision_not s P.F2 e = let z : ◌≡◌ {A = ℕ} 0 1 = cc in omega arith
 decision_not s P.Over e = let z : ◌≡◌ {A = ℕ} 0 1 = cc in omega arith
 
 module _ (s : PsiState) (a : Reply) (vs : ℕ) (lent : Bool) (e : answer_refusal (psi_kind s) (reply_of a) vs lent ≡ 0) where
-  pub cost_phase : (x : Float) → a ≡ Number x → (Sound s.sizes) × (s.phase ≡ P.Cost)
-  cost_phase x q =
-      let e' : answer_refusal (psi_kind s) (R.Reply.number x) vs lent ≡ 0 = subst (λ (z : Reply). answer_refusal (psi_kind s) (reply_of z) vs lent ≡ 0) q e in
-      let w = accepted_at psi_kind_at s _ vs lent e' s.phase refl in
-      (w.0, number_at s.sizes s.phase (accepted_number _ x vs lent w.1))
+  pub cost_phase : (Sound s.sizes) × ((x : Float) → a ≡ Number x → s.phase ≡ P.Cost)
+  cost_phase =
+      ((accepted_at psi_kind_at s _ vs lent e s.phase refl).0, λ x q. number_at s.sizes s.phase (accepted_number _ x vs lent (accepted_at psi_kind_at s _ vs lent (subst (λ (z : Reply). answer_refusal (psi_kind s) (reply_of z) vs lent ≡ 0) q e) s.phase refl).1))
 
   pub vector_accepted : a ≡ Vector → answer_refusal (psi_kind s) R.Reply.vector vs lent ≡ 0
   vector_accepted q = subst (λ (z : Reply). answer_refusal (psi_kind s) (reply_of z) vs lent ≡ 0) q e
 
-  pub yes_not : a ≡ Yes → ⊥
-  yes_not q =
-      let e' : answer_refusal (psi_kind s) R.Reply.yes vs lent ≡ 0 = subst (λ (z : Reply). answer_refusal (psi_kind s) (reply_of z) vs lent ≡ 0) q e in
-      decision_not s.sizes s.phase (accepted_yes _ vs lent (accepted_at psi_kind_at s _ vs lent e' s.phase refl).1)
+  pub decision_never : (a ≡ Yes → ⊥) × (a ≡ No → ⊥)
+  decision_never =
+      let not : (a' : Reply) → a ≡ a' → answer_refusal (psi_kind_at s.sizes s.phase) (reply_of a') vs lent ≡ 0 =
+      λ a' q. (accepted_at psi_kind_at s _ vs lent (subst (λ (z : Reply). answer_refusal (psi_kind s) (reply_of z) vs lent ≡ 0) q e) s.phase refl).1 in
+      (λ q. decision_not s.sizes s.phase (accepted_yes _ vs lent (not Yes q)), λ q. decision_not s.sizes s.phase (accepted_no _ vs lent (not No q)))
 
-  pub no_not : a ≡ No → ⊥
-  no_not q =
-      let e' : answer_refusal (psi_kind s) R.Reply.no vs lent ≡ 0 = subst (λ (z : Reply). answer_refusal (psi_kind s) (reply_of z) vs lent ≡ 0) q e in
-      decision_not s.sizes s.phase (accepted_no _ vs lent (accepted_at psi_kind_at s _ vs lent e' s.phase refl).1)
-
-pub vector_not_cost : (s : PsiState) (vs : ℕ) → answer_refusal (psi_kind s) R.Reply.vector vs true ≡ 0 → s.phase ≡ P.Cost → ⊥
-vector_not_cost s vs e q = vector_for_number vs true (accepted_at psi_kind_at s R.Reply.vector vs true e P.Cost q).1
+-- a vector that is accepted comes at a phase that waits for one, and has its places
+pub vector_waits : (s : PsiState) (vs : ℕ) → answer_refusal (psi_kind s) R.Reply.vector vs true ≡ 0
+    → (Sound s.sizes) × (s.phase ≡ P.F1 → vs ≡ s.sizes.n1) × (s.phase ≡ P.ProjectC → vs ≡ s.sizes.n1) × (s.phase ≡ P.F2 → vs ≡ s.sizes.n2) × (s.phase ≡ P.Cost → ⊥)
+vector_waits s vs e =
+    let at : (p : PsiPhase) → s.phase ≡ p → (Sound s.sizes) × (answer_refusal (psi_kind_at s.sizes p) R.Reply.vector vs true ≡ 0) = accepted_at psi_kind_at s R.Reply.vector vs true e in
+    ((at s.phase refl).0, λ q. accepted_length _ vs true (at P.F1 q).1, λ q. accepted_length _ vs true (at P.ProjectC q).1, λ q. accepted_length _ vs true (at P.F2 q).1, λ q. vector_for_number vs true (at P.Cost q).1)
 
 -- ---- an answer of the kind asked
 module _ (s : PsiState) (b b' : PsiBoard) (r : PsiStep) (h : Sound s.sizes) (p : PsiPhase) (e : s.phase ≡ p) (q : M.PsiQuestion) (v : List Float) where

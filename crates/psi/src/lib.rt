@@ -88,7 +88,7 @@ fn on_f2(s: PsiState, v: &[f64], work: &mut [f64; 64]) -> PsiStepped
 }
 
 // A vector that was asked for: each phase has a handler of its own, with the vectors that it needs.
-#[tactic(auto, using(factory::specs::FactoryRuns::vector_not_over, crate::proofs::PsiLaws::vector_not_cost))]
+#[tactic(auto, using(factory::specs::FactoryRuns::vector_not_over, crate::proofs::PsiLaws::vector_waits))]
 fn on_vector<'a>(s: PsiState, v: &[f64], at: PsiVectors<'a>) -> PsiStepped
     requires { answer_refusal (psi_kind s) (reply_of Reply.Vector) (length v.now) true ≡ 0 }
     ensures { (b : PsiBoard) → PsiTakes s (psi_held at.entry b) Reply.Vector v.now (told result) (psi_left at.exit b) }
@@ -105,7 +105,7 @@ fn on_vector<'a>(s: PsiState, v: &[f64], at: PsiVectors<'a>) -> PsiStepped
 }
 
 // An answer that nothing refuses: each kind goes to another handler.
-#[tactic(auto, using(crate::proofs::PsiLaws::vector_accepted, crate::proofs::PsiLaws::yes_not, crate::proofs::PsiLaws::no_not))]
+#[tactic(auto, using(crate::proofs::PsiLaws::cost_phase, crate::proofs::PsiLaws::vector_accepted, crate::proofs::PsiLaws::decision_never))]
 fn step<'a>(s: PsiState, a: Reply, v: &[f64], at: PsiVectors<'a>) -> PsiStepped
     requires { answer_refusal (psi_kind s) (reply_of a) (length v.now) true ≡ 0 }
     ensures { (b : PsiBoard) → PsiTakes s (psi_held at.entry b) a v.now (told result) (psi_left at.exit b) }

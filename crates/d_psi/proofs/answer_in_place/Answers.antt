@@ -1,12 +1,6 @@
-use Rattle.d_psi.proofs.DPsiLaws.{answer_goes, answer_refused, step_fits, result_fits}
+use Rattle.d_psi.proofs.DPsiLaws.{answer_goes, answer_refused}
 use Rattle.factory.specs.FactoryLent.{d_psi_held}
 use Rattle.d_psi.proofs.answer_in_place.Goals as goal
-
-pub step-r-requires : goal.step-r-requires
-step-r-requires c = step_fits c.args.s c.args.a c.args.v.now c.args.res.now _ c.wants.ensures c.in_default.ensures
-
-pub hand_out-requires : goal.hand_out-requires
-hand_out-requires c = result_fits c.args.s c.args.a c.args.v.now c.args.res.now _ c.wants.ensures c.in_default.ensures
 
 pub returns : goal.returns
 returns c = λ b. answer_goes c.args.s c.args.a c.args.v.now c.args.res.now _ c.wants.ensures c.in_default.ensures (d_psi_held c.args.at b) _ _ _ (c.step-r.ensures b) c.hand_out.ensures

@@ -1,9 +1,6 @@
-use Rattle.psi.proofs.PsiLaws.{cost_phase, took_number, took_vector, took_failure}
+use Rattle.psi.proofs.PsiLaws.{took_number, took_vector, took_failure}
 use Rattle.factory.specs.FactoryLent.{psi_held}
 use Rattle.psi.proofs.step.Goals as goal
-
-pub on_cost-requires : goal.on_cost-requires
-on_cost-requires c = cost_phase c.args.s _ _ _ c.requires _ c.in-Number.is
 
 pub returns-in-Number : goal.returns-in-Number
 returns-in-Number c = λ b. took_number c.args.s (psi_held c.args.at b) (psi_held c.args.at b) c.args.a c.args.v.now _ _ c.in-Number.is (c.on_cost.ensures (psi_held c.args.at b) c.args.v.now)
