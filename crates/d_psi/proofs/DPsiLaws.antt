@@ -61,12 +61,12 @@ module _ (s : DPsiState) (a : Reply) (vs : ℕ) (e : answer_refusal (d_psi_kind 
   answered : (a' : Reply) → a ≡ a' → answer_refusal (d_psi_kind_at s.sizes s.phase) (reply_of a') vs true ≡ 0
   answered a' q = (accepted_at d_psi_kind_at s (reply_of a') vs true (subst (λ (z : Reply). answer_refusal (d_psi_kind s) (reply_of z) vs true ≡ 0) q e) s.phase refl).1
 
-  pub number_refused : (x : Float) → a ≡ Number x → ⊥
-  number_refused x q = vectors_alone s.sizes s.phase Kind.number number_not (accepted_number _ x vs true (answered (Number x) q))
-
-  pub decision_refused : (a ≡ Yes → ⊥) × (a ≡ No → ⊥)
-  decision_refused =
-      (λ q. vectors_alone s.sizes s.phase Kind.decision decision_not (accepted_yes _ vs true (answered Yes q)), λ q. vectors_alone s.sizes s.phase Kind.decision decision_not (accepted_no _ vs true (answered No q)))
+  pub others_refused : ((x : Float) → a ≡ Number x → ⊥) × (a ≡ Yes → ⊥) × (a ≡ No → ⊥)
+  others_refused = (
+    λ x q. vectors_alone s.sizes s.phase Kind.number number_not (accepted_number _ x vs true (answered (Number x) q)),
+    λ q. vectors_alone s.sizes s.phase Kind.decision decision_not (accepted_yes _ vs true (answered Yes q)),
+    λ q. vectors_alone s.sizes s.phase Kind.decision decision_not (accepted_no _ vs true (answered No q)),
+  )
 
   pub vector_accepted : a ≡ Vector → answer_refusal (d_psi_kind s) R.Reply.vector vs true ≡ 0
   vector_accepted q = subst (λ (z : Reply). answer_refusal (d_psi_kind s) (reply_of z) vs true ≡ 0) q e

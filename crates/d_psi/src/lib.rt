@@ -37,6 +37,7 @@ fn add_product(c: f64, v: &[f64], gradient: &mut [f64; 64], work: &mut [f64; 64]
 }
 
 // The part of F1 is in the gradient: F2, or the end where there is none.
+#[tactic(auto, using(crate::proofs::DPsiLaws::f2_none, crate::proofs::DPsiLaws::f2_asked))]
 fn ask_f2(s: DPsiState) -> DPsiStepped
     requires { Sound s.sizes }
     ensures { (b : DPsiBoard) → DPsiComes s.sizes (d_psi_f2_at s b) (told result) b }
@@ -145,7 +146,7 @@ fn on_vector<'a>(s: DPsiState, v: &[f64], at: DPsiVectors<'a>) -> DPsiStepped
 }
 
 // An answer that nothing refuses: each kind goes to another handler. A result stays in the gradient.
-#[tactic(auto, using(crate::proofs::DPsiLaws::vector_accepted, crate::proofs::DPsiLaws::number_refused, crate::proofs::DPsiLaws::decision_refused))]
+#[tactic(auto, using(crate::proofs::DPsiLaws::vector_accepted, crate::proofs::DPsiLaws::others_refused))]
 fn step<'a>(s: DPsiState, a: Reply, v: &[f64], at: DPsiVectors<'a>) -> DPsiStepped
     requires { answer_refusal (d_psi_kind s) (reply_of a) (length v.now) true ≡ 0 }
     ensures { (b : DPsiBoard) → DPsiTakes s (d_psi_held at.entry b) a v.now (told result) (d_psi_left at.exit b) }
