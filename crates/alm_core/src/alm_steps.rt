@@ -21,6 +21,7 @@ pub fn to(s: Alm, phase: AlmPhase, outcome: AlmOutcome) -> AlmStepped
 }
 
 // The last COST, with c = 0.
+#[tactic(auto, using(crate::specs::Laws::conclude_goes))]
 pub fn conclude(s: Alm, status: ExitStatus) -> AlmStepped
     requires { sized s ≡ true }
     ensures { (b : LoopBoard) → Comes s.set (L.conclude binary64 (set_of s) (status_of status) (state_of s b)) (told result) b }
