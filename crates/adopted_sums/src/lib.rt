@@ -1,6 +1,7 @@
 // A point that is adopted, with its residual.
 // An array with a count, as C lends it: with slices, tried and as fast, each caller owes bounds, and that a slice holds the first places.
 // The vectors of the formula one by one, lent to be read or to be written: of a record of the run's vectors a clause would have to say which stay.
+// That n ≤ 64 is a clause, as matrix_operations says. Places by enumerate and no zip, as vector_additions says.
 #![tactic(auto, using(matrix_operations::specs::Laws::firsts_taken))]
 
 ghost use Rattle.std.specs.Prelude.{◌≡◌, ◌≤◌};

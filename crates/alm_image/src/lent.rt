@@ -84,43 +84,29 @@ pub fn alm_of<'a>(run: LoopRead<'a>) -> Alm
     }
 }
 
-// The settings of a start into the lent numbers; the rest of the loop's own is put at 0.
+// The settings of a start into the lent numbers, each at the place that C reads; the rest of the loop's own is put at 0.
 pub fn begin<'a>(set: AlmSettings, run: LoopLent<'a>)
     ensures settings { settings_left run.exit ≡ set }
     ensures solve { SameSolve run.entry run.exit }
 {
-    *run.lw = [0, 0, flag_number(set.has_set_y), flag_number(set.limited)];
-    *run.lk = [
-        0,
-        0,
-        0,
-        0,
-        set.n,
-        set.n1,
-        set.n2,
-        set.max_inner_iterations,
-        set.max_outer_iterations,
-        0,
-    ];
-    *run.lf = [
-        0.0,
-        0.0,
-        0.0,
-        0.0,
-        0.0,
-        0.0,
-        0.0,
-        set.tolerance,
-        set.epsilon_tolerance,
-        set.delta_tolerance,
-        set.initial_inner_tolerance,
-        set.penalty_update_factor,
-        set.epsilon_update_factor,
-        set.sufficient_decrease_coeff,
-        0.0,
-        0.0,
-        0.0,
-    ];
+    let LoopLent { lw, lk, lf, .. } = run;
+    *lw = [0; 4];
+    lw[HAS_SET_Y] = flag_number(set.has_set_y);
+    lw[LIMITED] = flag_number(set.limited);
+    *lk = [0; 10];
+    lk[N] = set.n;
+    lk[N1] = set.n1;
+    lk[N2] = set.n2;
+    lk[MAX_INNER] = set.max_inner_iterations;
+    lk[MAX_OUTER] = set.max_outer_iterations;
+    *lf = [0.0; 17];
+    lf[TOLERANCE] = set.tolerance;
+    lf[EPSILON] = set.epsilon_tolerance;
+    lf[DELTA] = set.delta_tolerance;
+    lf[INITIAL] = set.initial_inner_tolerance;
+    lf[PENALTY_FACTOR] = set.penalty_update_factor;
+    lf[EPSILON_FACTOR] = set.epsilon_update_factor;
+    lf[COEFFICIENT] = set.sufficient_decrease_coeff;
 }
 
 // The phase of a run and the end that it hands back, into lw, each at the place that C reads.
@@ -191,7 +177,7 @@ fn note_ends(
     lf[END_PENALTY] = penalty;
 }
 
-// What a call gives, told in the lent numbers; its kind is the result, a number since C reads it.
+// What a call gives, told in the lent numbers; its kind is the result, a number, as image::told says.
 // One match over what is told: each arm writes other numbers.
 pub fn tell_alm<'a>(o: AlmOutcome, run: LoopLent<'a>) -> u32
     ensures told { LoopTells (numbered o) result run.entry run.exit }
@@ -237,7 +223,7 @@ pub fn tell_alm<'a>(o: AlmOutcome, run: LoopLent<'a>) -> u32
     }
 }
 
-// What a step of the loop gave, kept and told; its kind is the result, a number since C reads it.
+// What a step of the loop gave, kept and told; its kind is the result, a number, as image::told says.
 #[tactic(auto, using(crate::specs::AlmStored::stored_as))]
 pub fn keep_step<'a>(o: AlmStepped, run: LoopLent<'a>) -> u32
     requires { settings_held run ≡ o.state.set }

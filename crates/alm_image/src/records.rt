@@ -14,7 +14,7 @@ pub struct LoopLent<'a> {
     pub lf: &'a mut [f64; 17],
 }
 
-// What only reads.
+// What only reads: a type of its own, as image::lent says.
 #[derive(Clone, Copy)]
 pub struct LoopRead<'a> {
     pub w: &'a [u32; 6],

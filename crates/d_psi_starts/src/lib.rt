@@ -1,4 +1,4 @@
-// The start of a run of d_psi: that of factory, at the phases of d_psi.
+// The start of a run of d_psi: that of factory, at the phases of d_psi. As psi_starts, it stands for what it promises.
 #![tactic(auto)]
 
 ghost use Rattle.panoc_core.specs.Told.{told, answered};

@@ -12,7 +12,7 @@ use arrayvec::ArrayVec;
 use word_printing::put_digits;
 
 // The pattern that is printed for every NaN.
-const QUIET: u64 = 9221120237041090560;
+const QUIET: u64 = 0x7ff8_0000_0000_0000;
 
 // The bits of a float; `f64::to_bits` asks that it is no NaN.
 pub fn to_bits(x: f64) -> u64

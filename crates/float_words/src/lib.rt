@@ -8,7 +8,7 @@ ghost use Rattle.word_numbers.specs.Reading.{hex_of, float_of};
 
 use word_numbers::numeral;
 
-// The pattern of infinity, and the bit of the sign.
+// The pattern of infinity, and the bit of the sign. They stand in numeric too: shared, the one would be built on the other for this line.
 const INFINITY: u64 = 0x7ff0_0000_0000_0000;
 
 const SIGN: u64 = 0x8000_0000_0000_0000;

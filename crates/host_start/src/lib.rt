@@ -4,9 +4,11 @@
 ghost use Rattle.panoc_core.specs.Board.{Board, Begins, set_u};
 ghost use Rattle.image.specs.Image.{settings_given, told_of};
 
+use image::kinds::{akkt_of, flag_of};
 use image::lent::Lent;
 use image_keep::keep;
-use image_solve::{keep_settings, settings_given, tell};
+use image_solve::{keep_settings, tell};
+use panoc_core::panoc_cache::Settings;
 use panoc_starts::start_in_place;
 
 // A run that is begun at the lent slice, or its refusal.
@@ -27,7 +29,13 @@ pub extern "C" fn pozkerrin_inner_start(
 ) -> u32
     ensures { (b : Board) → Begins (settings_given n max_iter limited tolerance has_akkt akkt_tolerance) at.now (told_of result w.new k.new f.new) (set_u u.new b) }
 {
-    let set = settings_given(n, max_iter, limited, tolerance, has_akkt, akkt_tolerance);
+    let set = Settings {
+        n,
+        max_iter,
+        limited: flag_of(limited),
+        tolerance,
+        akkt_tolerance: akkt_of(has_akkt, akkt_tolerance),
+    };
     let kept = Lent { w, k, f };
     keep_settings(set, kept);
     let r = start_in_place(set, at, u);

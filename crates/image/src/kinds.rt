@@ -1,5 +1,6 @@
 // Enums as numbers. Any number is read. Functions and no From: an impl would stand beside the enums, in panoc_core, and the numbers are
-// those of this layout. A number from an enum without fields is its place in the enum.
+// those of this layout; flags and tolerances are std's types, for which no impl can stand here. A number from an enum without fields is its
+// place in the enum.
 ghost use Rattle.std.specs.Prelude.{◌≡◌};
 ghost use Rattle.image.specs.Image.{phase_of, phase_number, status_of, status_number, flag_of, flag_number, akkt_of, akkt_set, akkt_value, question_number, reply_of};
 

@@ -12,7 +12,7 @@ pub struct Lent<'a> {
     pub f: &'a mut [f64; 13],
 }
 
-// The same where they are only read.
+// The same where they are only read: no type is generic in whether it lends to be written.
 #[derive(Drop)]
 pub struct LentRead<'a> {
     pub w: &'a [u32; 6],

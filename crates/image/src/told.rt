@@ -4,7 +4,8 @@ ghost use Rattle.panoc_core.specs.Told.{number_in};
 
 use panoc_core::outcome::Refusal;
 
-// The kinds of what a call has told. Numbers, since C reads them.
+// The kinds of what a call has told. Numbers, since C reads them: an enum would be turned into its number by each export, which is all that is
+// done with it.
 pub const ASKED: u32 = 0;
 
 pub const ENDED: u32 = 1;

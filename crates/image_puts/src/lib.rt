@@ -1,4 +1,5 @@
-// A handler changes the lent numbers by these calls: each replaces the numbers it names and keeps the others.
+// A handler changes the lent numbers by these calls: each replaces the numbers it names and keeps the others, and its clause names the change,
+// which a write in a handler would leave to each proof.
 #![tactic(auto)]
 
 ghost use Rattle.std.specs.Prelude.{◌≡◌};

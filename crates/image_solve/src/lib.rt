@@ -3,7 +3,7 @@
 
 ghost use Rattle.std.specs.Prelude.{◌≡◌, cond};
 ghost use Rattle.panoc_core.specs.Told.{refusal_number, numbered};
-ghost use Rattle.image.specs.Image.{settings_given, noted};
+ghost use Rattle.image.specs.Image.{noted};
 ghost use Rattle.image.specs.LentRun.{small_read, small_left, settings_left, TellsAt};
 
 use image::kinds::{
@@ -20,26 +20,6 @@ use image_puts::{note, note_end, numbers_of};
 use panoc_core::outcome::Refusal;
 use panoc_core::panoc_cache::{InnerIterations, Outcome, Settings, Solve};
 
-// The settings of a start, from its numbers.
-pub fn settings_given(
-    n: usize,
-    max_iter: usize,
-    limited: u32,
-    tolerance: f64,
-    has_akkt: u32,
-    akkt: f64,
-) -> Settings
-    ensures { result ≡ settings_given n max_iter limited tolerance has_akkt akkt }
-{
-    Settings {
-        n,
-        max_iter,
-        limited: flag_of(limited),
-        tolerance,
-        akkt_tolerance: akkt_of(has_akkt, akkt),
-    }
-}
-
 // The small part of the run that the lent numbers stand for. No impl of From, whose ghost member would say what the clause says here.
 pub fn solve_of<'a>(run: LentRead<'a>) -> Solve
     ensures { result ≡ small_read run.entry }
@@ -47,14 +27,13 @@ pub fn solve_of<'a>(run: LentRead<'a>) -> Solve
     let LentRead { w, k, f } = run;
     Solve {
         phase: phase_of(w[PHASE]),
-        set: settings_given(
-            k[N],
-            k[MAX_ITER],
-            w[LIMITED],
-            f[TOLERANCE],
-            w[HAS_AKKT],
-            f[AKKT],
-        ),
+        set: Settings {
+            n: k[N],
+            max_iter: k[MAX_ITER],
+            limited: flag_of(w[LIMITED]),
+            tolerance: f[TOLERANCE],
+            akkt_tolerance: akkt_of(w[HAS_AKKT], f[AKKT]),
+        },
         numbers: numbers_of(f),
         left: k[LEFT],
         iterations: InnerIterations(k[DONE]),
@@ -68,24 +47,16 @@ pub fn solve_of<'a>(run: LentRead<'a>) -> Solve
 pub fn keep_settings<'a>(set: Settings, run: Lent<'a>)
     ensures { settings_left run.exit ≡ set }
 {
-    let akkt = set.akkt_tolerance;
-    *run.w = [0, 0, 0, 0, flag_number(set.limited), akkt_set(akkt)];
-    *run.k = [0, 0, 0, set.n, set.max_iter, 0];
-    *run.f = [
-        0.0,
-        0.0,
-        0.0,
-        0.0,
-        0.0,
-        0.0,
-        0.0,
-        0.0,
-        0.0,
-        set.tolerance,
-        akkt_value(akkt),
-        0.0,
-        0.0,
-    ];
+    let Lent { w, k, f } = run;
+    *w = [0; 6];
+    w[LIMITED] = flag_number(set.limited);
+    w[HAS_AKKT] = akkt_set(set.akkt_tolerance);
+    *k = [0; 6];
+    k[N] = set.n;
+    k[MAX_ITER] = set.max_iter;
+    *f = [0.0; 13];
+    f[TOLERANCE] = set.tolerance;
+    f[AKKT] = akkt_value(set.akkt_tolerance);
 }
 
 // The small part of a run, into any lent numbers.
@@ -98,7 +69,7 @@ pub fn store<'a>(s: Solve, run: Lent<'a>)
     keep(s, Lent { w, k, f });
 }
 
-// What a call gives, told in the lent numbers; its kind is the result, a number since C reads it. As tell_alm of alm_image and tell of
+// What a call gives, told in the lent numbers; its kind is the result, a number, as image::told says. As tell_alm of alm_image and tell of
 // psi_image: questions, ends and arrays are others, and one for all would take three closures.
 pub fn tell<'a>(o: Outcome, run: Lent<'a>) -> u32
     ensures { TellsAt (numbered o) result run.entry run.exit }
@@ -129,7 +100,7 @@ pub fn strange(waits: bool) -> Refusal
     if waits { Refusal::Kind } else { Refusal::Over }
 }
 
-// A refusal, told in the lent numbers; its kind is the result, a number since C reads it.
+// A refusal, told in the lent numbers; its kind is the result, a number, as image::told says.
 pub fn refuse(refusal: Refusal, w: &mut [u32; 6]) -> u32
     ensures { (w.new ≡ noted (refusal_number refusal) w.old) × (result ≡ 2) }
 {

@@ -42,7 +42,7 @@ pub fn vector<const U: usize, const XI: usize>(fields: Fields) -> Option<Said<U,
     })
 }
 
-// failure CODE
+// failure CODE. As number, with another field and another reply.
 #[tactic(auto, unfolding(line_starts::specs::Lines::failure_line))]
 pub fn failure<const U: usize, const XI: usize>(mut fields: Fields) -> Option<Said<U, XI>>
     ensures { result ≡ failure_line U XI (left fields.entry) }

@@ -36,7 +36,7 @@ impl<'a> Fields<'a> {
         self.words.next()
     }
 
-    // A whole number below 2^64.
+    // A whole number below 2^64. This and the four below have one shape: one that takes the reader would say what the reader gives of a word.
     pub fn whole(&mut self) -> Option<u64>
         ensures value { Gives (whole_field (left self.old)) result (left self.new) }
         ensures used { left self.new ≡ drop 1 (left self.old) }

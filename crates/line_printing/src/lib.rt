@@ -32,7 +32,7 @@ pub fn put_counted<const N: usize>(word: &[u8], n: u64, out: &mut ArrayVec<u8, N
     put_whole(n, out);
 }
 
-// A word with floats behind it.
+// A word with floats behind it. As put_counted, with other text behind the word.
 pub fn put_point<const N: usize>(word: &[u8], xs: &[f64], out: &mut ArrayVec<u8, N>)
     requires { array_vec_len out.old + length word.now + 17 * length xs.now ≤ N }
     ensures text { out.new.items ≡ out.old.items ++ point_text word.now xs.now }

@@ -20,7 +20,7 @@ pub fn fill<F: Fn(usize) -> f64>(r: &mut [f64; 64], n: usize, f: F)
     }
 }
 
-// The sum of the squares of f(0), f(1), .., of the first n.
+// The sum of the squares of f(0), f(1), .., of the first n. Written out: std's sum starts from -0, and gives that of no place.
 pub fn sum_of_squares<F: Fn(usize) -> f64>(n: usize, f: F) -> f64
     requires { (i : ℕ) → i < n → F.pre f i }
     ensures { (xs : List Float) → length xs ≡ n → Gives (λ i y. F.post f i y) xs → result ≡ squares binary64 xs }
@@ -79,7 +79,7 @@ pub fn is_finite(a: &[f64; 64], n: usize) -> bool
 pub fn is_finite_in(v: &[f64]) -> bool
     ensures { result ≡ all_finite v.now }
 {
-    // tried: `all`, which takes longer for 4 places
+    // tried: `all`, which takes longer for 4 places, where this takes no longer than the code before had
     let mut ok = true;
     for x in v {
         ok &= numeric::is_finite(*x);

@@ -26,7 +26,7 @@ pub enum Refusal {
 }
 
 impl Refusal {
-    // The number that the table gives it.
+    // The number that the table gives it. No impl of From, whose ghost member would say what the clause says.
     pub fn number(self) -> u32
         ensures { result ≡ refusal_number self }
     {

@@ -75,7 +75,7 @@ pub enum Question {
     Time,
 }
 
-// An answer: the vector stands beside it, in a lent slice.
+// An answer: the vector stands beside it, in a lent slice, as document 01 has it.
 #[derive(Clone, Copy, Debug, PartialEq)]
 pub enum Reply {
     Number(f64),

@@ -1,4 +1,5 @@
-// Why an answer is refused, for every kind of run: 6 to 8 of the table, by what the run waits for.
+// Why an answer is refused, for every kind of run: 6 to 8 of the table, by what the run waits for. An Option and no Result: a caller asks for
+// the refusal, and goes on where there is none.
 ghost use Rattle.std.specs.Prelude.{◌≡◌, cond, ◌&&◌, eqb};
 ghost use Rattle.model.specs.Refusals.{answer_refusal};
 ghost use Rattle.panoc_core.specs.Told.{number_of};

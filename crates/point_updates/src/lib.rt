@@ -1,5 +1,6 @@
 // A gradient and its step, in one loop.
 // The vectors of the formula one by one, lent to be read or to be written: of a record of the run's vectors a clause would have to say which stay.
+// That v has at most 64 places is a clause, as matrix_operations says of n. Places by enumerate and no zip, as vector_additions says.
 #![tactic(auto, using(matrix_operations::specs::Laws::firsts_all))]
 
 ghost use Rattle.std.specs.Prelude.{◌≡◌, ◌≤◌, length};

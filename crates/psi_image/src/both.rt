@@ -1,4 +1,5 @@
-// What the lent numbers of psi and of d_psi have alike: w and k.
+// What the lent numbers of psi and of d_psi have alike: w and k. The value is psi's alone, and with it the length of f: one function for both
+// would take a trait of two lines.
 ghost use Rattle.std.specs.Prelude.{◌≡◌};
 ghost use Rattle.panoc_core.specs.Told.{numbered};
 ghost use Rattle.psi_image.specs.PsiImage.{sizes_of, noted, Tells};
@@ -36,7 +37,7 @@ fn note(number: u32, w: &mut [u32; 2])
     w[TOLD] = number;
 }
 
-// What a call has told, but for the value of an end, into the lent numbers: C reads 0 at an end. Its kind is the result, a number since C reads it.
+// What a call has told, but for the value of an end, into the lent numbers: C reads 0 at an end. Its kind is the result, a number, as image::told says.
 // One match over what is told: each arm notes another number.
 pub fn tell<E: Copy>(o: Outcome<PsiQuestion, E>, w: &mut [u32; 2]) -> u32
     ensures { Tells (numbered o) result w.old w.new }

@@ -33,7 +33,7 @@ pub fn keep_d_psi<'a>(s: DPsiState, run: PenaltyLent<'a, 1>)
     *f = [s.c];
 }
 
-// What a call has told, into the lent numbers; its kind is the result, a number since C reads it.
+// What a call has told, into the lent numbers; its kind is the result, a number, as image::told says.
 pub fn tell_d_psi(o: DPsiOutcome, w: &mut [u32; 2]) -> u32
     ensures { DPsiTells (numbered o) result w.old w.new }
 {

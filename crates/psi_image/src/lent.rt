@@ -9,7 +9,7 @@ pub struct PenaltyLent<'a, const F: usize> {
     pub f: &'a mut [f64; F],
 }
 
-// What only reads.
+// What only reads: a type of its own, as image::lent says.
 #[derive(Drop)]
 pub struct PenaltyRead<'a, const F: usize> {
     pub w: &'a [u32; 2],

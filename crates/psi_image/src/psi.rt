@@ -33,7 +33,7 @@ pub fn keep_psi<'a>(s: PsiState, run: PenaltyLent<'a, 3>)
     *f = [s.c, s.value, f[END_VALUE]];
 }
 
-// What a call has told, into the lent numbers; its kind is the result, a number since C reads it.
+// What a call has told, into the lent numbers; its kind is the result, a number, as image::told says.
 pub fn tell_psi<'a>(o: PsiOutcome, run: PenaltyLent<'a, 3>) -> u32
     ensures told { PsiTellsAt (numbered o) result run.entry run.exit }
     ensures sizes { SameSizes run.entry run.exit }

@@ -1,4 +1,4 @@
-// The phases of d_psi as numbers.
+// The phases of d_psi as numbers: Numbered says why no From.
 use crate::Numbered;
 use factory::alm_factory::DPsiPhase;
 

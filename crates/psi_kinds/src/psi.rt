@@ -1,4 +1,4 @@
-// The phases of psi as numbers.
+// The phases of psi as numbers: Numbered says why no From.
 use crate::Numbered;
 use factory::alm_factory::PsiPhase;
 

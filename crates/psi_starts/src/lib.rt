@@ -1,4 +1,5 @@
-// The start of a run of psi: that of factory, at the phases of psi.
+// The start of a run of psi: that of factory, at the phases of psi. It stands for what it promises in document 01's words (start_psi), which the
+// generic one says of any Penalty.
 #![tactic(auto)]
 
 ghost use Rattle.panoc_core.specs.Told.{told, answered};

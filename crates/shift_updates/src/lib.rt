@@ -1,5 +1,6 @@
 // u shifted, as the estimate of the Lipschitz constant asks.
 // An array with a count, as C lends it: with slices, tried and as fast, each caller owes bounds, and that a slice holds the first places.
+// That n ≤ 64 is a clause, as matrix_operations says.
 #![tactic(auto, using(matrix_operations::specs::Laws::firsts_part, matrix_operations::specs::Laws::firsts_taken, matrix_operations::specs::Laws::norm_root))]
 
 ghost use Rattle.std.specs.Prelude.{◌≡◌, ◌≤◌};
@@ -12,7 +13,7 @@ const EPSILON_LIPSCHITZ: f64 = 1e-6;
 
 const DELTA_LIPSCHITZ: f64 = 1e-12;
 
-// The shift at a place of u.
+// The shift at a place of u. `numeric::max` gives the same, and tests for a NaN too.
 fn shift_at(s: f64) -> f64
     ensures { result ≡ shift binary64 s }
 {

@@ -1,4 +1,5 @@
-// The words before the points of a question of the inner solve, which the loop carries too.
+// The words before the points of a question of the inner solve, which the loop carries too. Bytes and no Display: `asked` takes a word, whose
+// length its clause bounds.
 ghost use Rattle.std.specs.Prelude.{◌≤◌, length};
 
 use panoc_core::panoc_cache::Question;

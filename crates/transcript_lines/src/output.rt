@@ -1,5 +1,6 @@
 // A line that is printed, and what several kinds of runs print alike. That a word has at most 50 bytes is a clause and no type: each is a literal,
-// of which a type would be made at each call by the same proof; that a closure may be called is a clause wherever one is.
+// of which a type would be made at each call by the same proof; that a closure may be called is a clause wherever one is. Nothing here is a
+// Display: its writer gives no caller what was written.
 ghost use Rattle.arrayvec.specs.ArrayVec.{array_vec_len};
 ghost use Rattle.std.specs.Prelude.{◌≤◌, length};
 
@@ -80,7 +81,7 @@ fn failed(code: u32) -> Line
     ensures { array_vec_len result ≤ 64 }
 {
     let mut line = Line::new();
-    put_counted(b"refused 9 ", code as u64, &mut line);
+    put_counted(b"refused 9 ", u64::from(code), &mut line);
     line
 }
 

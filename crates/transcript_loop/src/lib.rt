@@ -33,7 +33,7 @@ pub fn told(r: &AlmAnswered) -> Line {
     )
 }
 
-// The word of a question.
+// The word of a question: bytes, as transcript_lines::names has them.
 fn name(question: AlmQuestion) -> &'static [u8]
     ensures { length result.now ≤ 11 }
 {

@@ -6,7 +6,7 @@ use factory::alm_factory::{DPsiAnswered, PsiAnswered, PsiQuestion, Sizes};
 use panoc_core::outcome::Refusal;
 use transcript_lines::output::{Line, alone, asked, put_points, told};
 
-// What a call of psi gave; its end has a value.
+// What a call of psi gave; its end has a value. Beside d_psi's: both are one call of told, each with its own points and end.
 pub fn psi_told(r: &PsiAnswered) -> Line {
     told(
         r.outcome,

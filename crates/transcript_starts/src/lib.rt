@@ -1,4 +1,5 @@
-// The calls of the transcript program that start a run: each gives what is open from then on, and what is printed.
+// The calls of the transcript program that start a run: each gives what is open from then on, and what is printed. One for all would take the
+// start, what is told and what is open as closures.
 #![tactic(auto)]
 
 use alm_core::alm_cache::AlmSettings;

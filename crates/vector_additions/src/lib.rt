@@ -1,5 +1,6 @@
 // A multiple of a vector, added to another through a `&mut`.
 // An array with a count, as C lends it: with slices, tried and as fast, each caller owes bounds, and that a slice holds the first places.
+// That n ≤ 64 is a clause, as matrix_operations says.
 #![tactic(auto)]
 
 ghost use Rattle.std.specs.Prelude.{◌≡◌, ◌≤◌};

@@ -1,6 +1,7 @@
 // Vectors worked out place by place of two others and a number, and written through a `&mut`.
 // An array with a count, as C lends it: with slices, tried and as fast, each caller owes bounds, and that a slice holds the first places.
 // The vectors of the formula one by one, lent to be read or to be written: of a record of the run's vectors a clause would have to say which stay.
+// That n ≤ 64 is a clause, as matrix_operations says.
 #![tactic(auto)]
 
 ghost use Rattle.std.specs.Prelude.{◌≡◌, ◌≤◌};

@@ -5,7 +5,8 @@ ghost use Rattle.std.specs.Prelude.{◌≡◌, ◌==◌, ◌∷◌, position};
 ghost use Rattle.words.specs.Splitting.{words_of};
 ghost use Rattle.words.specs.Left.{words_in, words_left};
 
-// The words of a line that are still to come: those of what is left of it, none behind the last.
+// The words of a line that are still to come: those of what is left of it, none behind the last. No `split` of std, whose closure would be a
+// parameter of Fields and of all that takes one.
 #[derive(Drop)]
 pub struct Words<'a> {
     left: Option<&'a [u8]>,

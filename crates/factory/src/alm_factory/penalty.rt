@@ -202,9 +202,7 @@ impl Penalty for DPsiPhase {
         DPsiPhase::Over
     }
 
-    fn nothing() -> () {
-        ()
-    }
+    fn nothing() {}
 
     fn board(u: [f64; 64], y: [f64; 64]) -> DPsiBoard {
         DPsiBoard {

@@ -1,4 +1,4 @@
-// A start of psi or d_psi: what it tests, the table's 1 and 2, and the run that it begins.
+// A start of psi or d_psi: what it tests, the table's 1 and 2, and the run that it begins. u and xi one by one, as every call lends them.
 ghost use Rattle.std.specs.Prelude.{◌≡◌};
 ghost use Rattle.model.specs.Refusals.{psi_refusal};
 ghost use Rattle.panoc_core.specs.Told.{number_of, told, answered};

@@ -1,4 +1,4 @@
-// What psi and d_psi take the projection of.
+// What psi and d_psi take the projection of. That F1 has at most 64 places is a clause, as matrix_operations says of n.
 ghost use Rattle.std.specs.Prelude.{◌≡◌, ◌≤◌, length};
 ghost use Rattle.std.specs.Float.{binary64};
 ghost use Rattle.matrix_operations.specs.Firsts.{firsts};
