@@ -40,23 +40,21 @@ pub trait Penalty: Copy {
     // The vectors with another u and y.
     ghost with_uy: { List Float → List Float → Self.Board → Self.Board };
 
-    ghost first_phase: { Self };
+    // The phase and the question that a run begins with, and the phase of one that has ended.
+    const FIRST: Self;
 
-    ghost first_question: { PsiQuestion };
+    ghost FIRST: { Self };
 
-    ghost over_phase: { Self };
+    const ASKS_FIRST: PsiQuestion;
 
-    fn first() -> Self
-        ensures { result ≡ first_phase };
+    ghost ASKS_FIRST: { PsiQuestion };
 
-    fn asks_first() -> PsiQuestion
-        ensures { result ≡ first_question };
+    const OVER: Self;
 
-    fn over() -> Self
-        ensures { result ≡ over_phase };
+    ghost OVER: { Self };
 
     // What is so far at the start: it is replaced before it is read.
-    fn nothing() -> Self::Value;
+    const NOTHING: Self::Value;
 
     fn board(u: [f64; 64], y: [f64; 64]) -> Self::Board
         ensures { result ≡ with_uy u y result };
@@ -64,11 +62,11 @@ pub trait Penalty: Copy {
     fn wanted(self, sizes: Sizes) -> Option<Wanted>
         ensures { kind_of result ≡ kind_at sizes self };
 
-    ghost begins: { (s : Sizes) (c : Float) (x : Self.Value) (u y : List Float) (b : Self.Board) → resume (run_of (record { phase = first_phase; sizes = s; c = c; value = x }) (with_uy u y b)) first_phase ≡ begun s (firsts s.n u) c (firsts s.n1 y) };
+    ghost begins: { (s : Sizes) (c : Float) (x : Self.Value) (u y : List Float) (b : Self.Board) → resume (run_of (record { phase = FIRST; sizes = s; c = c; value = x }) (with_uy u y b)) FIRST ≡ begun s (firsts s.n u) c (firsts s.n1 y) };
 
-    ghost asks: { (s : Sizes) (u : List Float) (c : Float) (y : List Float) → Asks tells first_question (begun s u c y) };
+    ghost asks: { (s : Sizes) (u : List Float) (c : Float) (y : List Float) → Asks tells ASKS_FIRST (begun s u c y) };
 
-    ghost ends: { (r : Run (State Self Self.Value) Self.Board) → resume r over_phase ≡ stop (refused 6) };
+    ghost ends: { (r : Run (State Self Self.Value) Self.Board) → resume r OVER ≡ stop (refused 6) };
 
     ghost kinds: { (s : State Self Self.Value) (b : Self.Board) (p : Self) → wanted (resume (run_of s b) p) ≡ kind_at s.sizes p };
 }
@@ -100,11 +98,19 @@ impl Penalty for PsiPhase {
 
     ghost with_uy = { psi_uy };
 
-    ghost first_phase = { PsiPhase.Cost };
+    const FIRST: PsiPhase = PsiPhase::Cost;
 
-    ghost first_question = { PsiQuestion.Cost };
+    ghost FIRST = { PsiPhase.Cost };
 
-    ghost over_phase = { PsiPhase.Over };
+    const ASKS_FIRST: PsiQuestion = PsiQuestion::Cost;
+
+    ghost ASKS_FIRST = { PsiQuestion.Cost };
+
+    const OVER: PsiPhase = PsiPhase::Over;
+
+    ghost OVER = { PsiPhase.Over };
+
+    const NOTHING: f64 = 0.0;
 
     ghost begins = { psi_begins };
 
@@ -113,22 +119,6 @@ impl Penalty for PsiPhase {
     ghost ends = { psi_ends };
 
     ghost kinds = { psi_kinds };
-
-    fn first() -> PsiPhase {
-        PsiPhase::Cost
-    }
-
-    fn asks_first() -> PsiQuestion {
-        PsiQuestion::Cost
-    }
-
-    fn over() -> PsiPhase {
-        PsiPhase::Over
-    }
-
-    fn nothing() -> f64 {
-        0.0
-    }
 
     fn board(u: [f64; 64], y: [f64; 64]) -> PsiBoard {
         PsiBoard {
@@ -176,11 +166,19 @@ impl Penalty for DPsiPhase {
 
     ghost with_uy = { d_psi_uy };
 
-    ghost first_phase = { DPsiPhase.Gradient };
+    const FIRST: DPsiPhase = DPsiPhase::Gradient;
 
-    ghost first_question = { PsiQuestion.Gradient };
+    ghost FIRST = { DPsiPhase.Gradient };
 
-    ghost over_phase = { DPsiPhase.Over };
+    const ASKS_FIRST: PsiQuestion = PsiQuestion::Gradient;
+
+    ghost ASKS_FIRST = { PsiQuestion.Gradient };
+
+    const OVER: DPsiPhase = DPsiPhase::Over;
+
+    ghost OVER = { DPsiPhase.Over };
+
+    const NOTHING: () = ();
 
     ghost begins = { d_psi_begins };
 
@@ -189,20 +187,6 @@ impl Penalty for DPsiPhase {
     ghost ends = { d_psi_ends };
 
     ghost kinds = { d_psi_kinds };
-
-    fn first() -> DPsiPhase {
-        DPsiPhase::Gradient
-    }
-
-    fn asks_first() -> PsiQuestion {
-        PsiQuestion::Gradient
-    }
-
-    fn over() -> DPsiPhase {
-        DPsiPhase::Over
-    }
-
-    fn nothing() {}
 
     fn board(u: [f64; 64], y: [f64; 64]) -> DPsiBoard {
         DPsiBoard {

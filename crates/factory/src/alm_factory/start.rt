@@ -48,22 +48,22 @@ pub fn start_in_place<P: Penalty>(
 {
     if let Some(refusal) = start_refusal(sizes, at.len(), xi.len()) {
         let state = State {
-            phase: P::over(),
+            phase: P::OVER,
             sizes,
             c: 0.0,
-            value: P::nothing(),
+            value: P::NOTHING,
         };
         return refuses(state, refusal);
     }
     vector_copies::take_into(at, u);
     multipliers_in(xi, y);
     Stepped {
-        outcome: Outcome::Asked(P::asks_first()),
+        outcome: Outcome::Asked(P::ASKS_FIRST),
         state: State {
-            phase: P::first(),
+            phase: P::FIRST,
             sizes,
             c: penalty_in(xi),
-            value: P::nothing(),
+            value: P::NOTHING,
         },
     }
 }
