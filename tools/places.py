@@ -42,8 +42,11 @@ def functions(path):
             continue
         j = i
         indent = re.match(r"\s*", lines[i]).group(0)
-        while j < len(lines) and not re.match(indent + r"(\{|.*\{)$", lines[j]) :
+        while j < len(lines) and not re.match(indent + r"(\{|.*\{)$", lines[j]) and not lines[j].endswith(";"):
             j += 1
+        if j < len(lines) and lines[j].endswith(";"):
+            i = j + 1  # a trait's method without a body
+            continue
         k = j
         while k < len(lines) and lines[k] != indent + "}":
             k += 1
