@@ -109,6 +109,7 @@ pub fn note(number: u32, w: &mut [u32; 6])
 }
 
 // The numbers of an end. Two of the three lent arrays: who calls has the record taken apart already.
+#[tactic(auto, using(image::specs::Spelled::six, image::specs::Spelled::thirteen))]
 pub fn note_end(iterations: usize, norm: f64, cost: f64, k: &mut [usize; 6], f: &mut [f64; 13])
     ensures { (k.new ≡ noted_count iterations k.old) × (f.new ≡ noted_end norm cost f.old) }
 {
