@@ -11,6 +11,7 @@ ghost use Rattle.word_printing.specs.Printing.{whole_word};
 use arrayvec::ArrayVec;
 
 // The byte of a digit. `char::from_digit` gives an Option of a char, to be opened and narrowed again.
+#[tactic(auto, using(std::proofs::lemmas::Bool::Decides::nat_tests), unfolding(word_numbers::specs::Digits::glyph))]
 pub fn glyph(d: u64) -> u8
     requires { d < 16 }
     ensures { result ≡ Digits·glyph d }
@@ -31,6 +32,7 @@ pub fn put_word<const N: usize>(word: &[u8], out: &mut ArrayVec<u8, N>)
 }
 
 // The last digits of a number in a base, the most significant first.
+#[tactic(auto, using(crate::proofs::Written::digits_last, crate::proofs::Written::digits_none))]
 pub fn put_digits<const N: usize>(n: u64, base: u64, places: usize, out: &mut ArrayVec<u8, N>)
     requires digits { (0 < base) × (base ≤ 16) }
     requires room { array_vec_len out.old + places ≤ N }
@@ -44,6 +46,7 @@ pub fn put_digits<const N: usize>(n: u64, base: u64, places: usize, out: &mut Ar
 }
 
 // How many decimal digits a number has.
+#[tactic(auto, using(crate::proofs::Written::places_one))]
 fn places(n: u64) -> usize
     ensures { (most : ℕ) → n < 10 ^ suc most → result ≡ places_in most n }
 {
