@@ -34,6 +34,7 @@ pub fn numeral(base: u64, word: &[u8]) -> Option<u64>
 }
 
 // A whole number below 2^64: nothing follows a zero in front.
+#[tactic(auto, using(crate::specs::Numerals::whole_empty, crate::specs::Numerals::whole_zero, crate::specs::Numerals::whole_plain))]
 pub fn read_whole(word: &[u8]) -> Option<u64>
     ensures { result ≡ whole_of (2 ^ 64) word.now }
 {
