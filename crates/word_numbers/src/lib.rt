@@ -18,6 +18,7 @@ pub fn digit(c: u8) -> Option<u64>
 }
 
 // A numeral in a base, below 2^64. A word of no digits is 0.
+#[tactic(auto, using(crate::specs::Numerals::under_end, crate::specs::Numerals::under_over, crate::specs::Numerals::under_other))]
 pub fn numeral(base: u64, word: &[u8]) -> Option<u64>
     requires { (1 ≤ base) × (base ≤ 16) }
     ensures { result ≡ under (2 ^ 64) (Digits·numeral base 0 word.now) }
