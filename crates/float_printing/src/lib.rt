@@ -25,6 +25,7 @@ pub fn to_bits(x: f64) -> u64
 }
 
 // A float as 16 hexadecimal digits.
+#[tactic(auto, unfolding(word_printing::specs::Printing::float_word))]
 pub fn put_float<const N: usize>(x: f64, out: &mut ArrayVec<u8, N>)
     requires { array_vec_len out.old + 16 ≤ N }
     ensures text { out.new.items ≡ out.old.items ++ float_word x }
