@@ -82,7 +82,7 @@ def main():
     for key in sorted(set(before) & set(after)):
         if before[key] != after[key]:
             print(f"{key[0]}: {key[1]}\n  - {before[key]}\n  + {after[key]}")
-    print("```\n\nGone from `proofs/` (none of them named by README or docs/); what states them is in \"Gone, and what states it now\":\n")
+    print("```\n\nGone from `proofs/` (docs/PORT.md has some in its table of names); what states them is in \"Gone, and what states it now\":\n")
     gone = collections.defaultdict(list)
     for crate, name in sorted(set(before) - set(after)):
         gone[crate].append(name)

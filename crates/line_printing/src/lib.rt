@@ -23,6 +23,7 @@ pub fn put_floats<const N: usize>(xs: &[f64], out: &mut ArrayVec<u8, N>)
 }
 
 // A word with a whole number behind it.
+#[tactic(auto, unfolding(word_printing::specs::Printing::counted_text))]
 pub fn put_counted<const N: usize>(word: &[u8], n: u64, out: &mut ArrayVec<u8, N>)
     requires { array_vec_len out.old + length word.now + 20 ≤ N }
     ensures text { out.new.items ≡ out.old.items ++ counted_text word.now n }
@@ -33,6 +34,7 @@ pub fn put_counted<const N: usize>(word: &[u8], n: u64, out: &mut ArrayVec<u8, N
 }
 
 // A word with floats behind it. As put_counted, with other text behind the word.
+#[tactic(auto, unfolding(word_printing::specs::Printing::point_text))]
 pub fn put_point<const N: usize>(word: &[u8], xs: &[f64], out: &mut ArrayVec<u8, N>)
     requires { array_vec_len out.old + length word.now + 17 * length xs.now ≤ N }
     ensures text { out.new.items ≡ out.old.items ++ point_text word.now xs.now }
