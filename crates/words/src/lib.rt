@@ -29,6 +29,7 @@ fn space(line: &[u8]) -> Option<usize>
 }
 
 // The first word, and the line behind the space that ends it.
+#[tactic(auto, using(crate::proofs::CutLaws::cut_some, crate::proofs::CutLaws::cut_none))]
 fn cut(line: &[u8]) -> (&[u8], Option<&[u8]>)
     ensures { words_of line.now ≡ result.0.now ∷ words_in result.1 }
 {
