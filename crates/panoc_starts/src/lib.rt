@@ -70,6 +70,7 @@ pub fn begin(set: Settings) -> Solve
 }
 
 // A run in place that is begun at first, or its refusal.
+#[tactic(auto, using(crate::proofs::StartLaws::started))]
 pub fn start_in_place(set: Settings, first: &[f64], u: &mut [f64; 64]) -> Stepped
     ensures { (b : Board) → Begins set first.now (told result) (set_u u.new b) }
 {

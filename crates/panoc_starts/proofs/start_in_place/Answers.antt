@@ -1,10 +1,7 @@
-use Rattle.panoc_starts.proofs.StartLaws.{started, start_runs, start_refuses, start_same}
+use Rattle.panoc_starts.proofs.StartLaws.{start_runs, start_refuses, start_same}
 use Rattle.panoc_core.specs.Numbers.{refusal_some}
-use Rattle.std.proofs.Common.{refl, sym}
+use Rattle.std.proofs.Common.{refl}
 use Rattle.panoc_starts.proofs.start_in_place.Goals as goal
-
-pub take_into-requires : goal.take_into-requires
-take_into-requires c = let ok = started c.args.set _ (sym c.in-None.ensures) in rw ok.1 ok.0
 
 pub returns-in-None : goal.returns-in-None
 returns-in-None c = λ b. start_same c.args.set c.args.first.now _ _ _ c.begin-solve.ensures (start_runs c.args.set c.args.first.now 0 c.in-None.ensures _ refl c.take_into.ensures)
