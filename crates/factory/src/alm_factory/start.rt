@@ -37,6 +37,7 @@ pub fn start_refusal(s: Sizes, us: usize, xis: usize) -> Option<Refusal>
 }
 
 // A run in place that is begun at a lent u and xi, or its refusal.
+#[tactic(auto, using(crate::specs::FactoryLaws::started, crate::specs::FactoryLaws::sound_n))]
 pub fn start_in_place<P: Penalty>(
     sizes: Sizes,
     at: &[f64],

@@ -5,14 +5,6 @@ use Rattle.factory.specs.FactoryLaws.{started, sound_n}
 use Rattle.factory.specs.FactoryStarts.{start_runs, start_refuses}
 use Rattle.factory.proofs.alm_factory.start.start_in_place.Goals as goal
 
-pub take_into-requires : goal.take_into-requires
-take_into-requires g c =
-    let ok = started c.args.sizes _ c.args.xi.now (sym c.in_default.ensures) in
-    omega (arith, sound_n c.args.sizes ok.sound, ok.places)
-
-pub multipliers_in-requires : goal.multipliers_in-requires
-multipliers_in-requires g c = (started c.args.sizes _ c.args.xi.now (sym c.in_default.ensures)).xis
-
 pub returns-in-Some : goal.returns-in-Some
 returns-in-Some g c = λ b.
     start_refuses _ _ g.P.Penalty.begun c.args.sizes c.args.at.now c.args.xi.now _ (sym (ap number_of c.in-Some.is) ∙ c.start_refusal.ensures) (g.P.Penalty.with_uy c.args.u.now c.args.y.now b) _ _
