@@ -1,9 +1,7 @@
 -- Lists of the lengths of w and f, spelled out, and a small part made anew. Assumes nothing.
 use Rattle.std.specs.Prelude.{ℕ, ◌≡◌, refl, List, [], ◌∷◌, Float, get_or, length}
-use Rattle.std.proofs.Common.{ap, ◌∙◌, arith}
+use Rattle.std.proofs.Common.{arith}
 use Rattle.std.specs.Float.{nan}
-use Rattle.factory.specs.declared.alm_factory.Sizes.{Sizes}
-use Rattle.factory.specs.declared.alm_factory.State.{State}
 
 -- w
 pub two : (xs : List ℕ) → length xs ≡ 2 → xs ≡ get_or xs 0 0 ∷ get_or xs 1 0 ∷ []
@@ -19,8 +17,3 @@ three (a ∷ []) long = absurd (omega (arith, long))
 three (a ∷ b ∷ []) long = absurd (omega (arith, long))
 three (a ∷ b ∷ c ∷ []) long = refl
 three (a ∷ b ∷ c ∷ d ∷ more) long = absurd (omega (arith, long))
-
--- a small part with its phase and its sizes given by equal values
-pub made : {P V : Type 0} (s : State P V) (p : P) (z : Sizes) → p ≡ s.phase → z ≡ s.sizes → ◌≡◌ {A = State P V} (record { phase = p; sizes = z; c = s.c; value = s.value }) s
-made {P} s p z e h =
-    ap (λ (q : P). record { phase = q; sizes = z; c = s.c; value = s.value }) e ∙ ap (λ (q : Sizes). record { phase = s.phase; sizes = q; c = s.c; value = s.value }) h

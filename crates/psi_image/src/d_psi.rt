@@ -24,6 +24,7 @@ pub fn d_psi_of<'a>(run: PenaltyRead<'a, 1>) -> DPsiState
 }
 
 // The small part of a run into the lent numbers, each at the place that C reads.
+#[tactic(auto, using(psi_kinds::specs::PsiKinds::d_psi_round, crate::proofs::Laws::two))]
 pub fn keep_d_psi<'a>(s: DPsiState, run: PenaltyLent<'a, 1>)
     ensures { d_psi_state_left run.exit ≡ s }
 {

@@ -24,6 +24,7 @@ pub fn psi_of<'a>(run: PenaltyRead<'a, 3>) -> PsiState
 
 // The small part of a run into the lent numbers, each at the place that C reads. f is written whole: of writes at its places the proof did not
 // close, since it does not learn there how long f is.
+#[tactic(auto, using(psi_kinds::specs::PsiKinds::psi_round, crate::proofs::Laws::two))]
 pub fn keep_psi<'a>(s: PsiState, run: PenaltyLent<'a, 3>)
     ensures { psi_state_left run.exit ≡ s }
 {
