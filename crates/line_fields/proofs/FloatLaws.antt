@@ -1,5 +1,5 @@
 -- Laws for loops that read floats. Assumes nothing.
-use Rattle.std.specs.Prelude.{◌≡◌, refl, List, [], ◌∷◌, ◌++◌, ℕ, suc, ◌+◌, ◌-◌, ◌≤◌, ◌<◌, Some, None, Result, Ok, Err, OnOk, OnErr, IsOk, length}
+use Rattle.std.specs.Prelude.{◌≡◌, List, [], ◌∷◌, ◌++◌, ℕ, suc, ◌+◌, ◌-◌, ◌≤◌, ◌<◌, Some, None, Result, Ok, Err, OnErr, length}
 use Rattle.std.specs.Result.{result_ok}
 use Rattle.std.specs.Float.Ieee.{Float}
 use Rattle.std.proofs.Common.{arith, lt-ltb, le-ltb}
@@ -46,14 +46,6 @@ module _ (m : ℕ) (xs : List Float) (s : Left) where
     rest_other f = rw (e, f)
 
 -- ---- what a call that was made an Option ensures
-pub on_ok : {T E : Type 0} (r : Result T E) (x : T) (P : Type 0) → Some x ≡ result_ok r → OnOk r P → P
-on_ok (Ok y) x P e h = h
-on_ok (Err y) x P e h = cc
-
-pub is_ok : {T E : Type 0} (r : Result T E) (x : T) → Some x ≡ result_ok r → IsOk r
-is_ok (Ok y) x e = refl
-is_ok (Err y) x e = cc
-
 pub on_err : {T E : Type 0} (r : Result T E) (P : Type 0) → None ≡ result_ok r → OnErr r P → P
 on_err (Ok y) P e h = cc
 on_err (Err y) P e h = h

@@ -77,6 +77,7 @@ impl<'a> Fields<'a> {
     }
 
     // n floats.
+    #[tactic(auto, using(crate::proofs::FloatLaws::floats_next, crate::proofs::FloatLaws::floats_none, crate::proofs::FloatLaws::floats_done))]
     pub fn floats<const N: usize>(&mut self, n: usize) -> Option<ArrayVec<f64, N>>
         requires { n ≤ N }
         ensures { let f = floats_field [] n (left self.old) in MatchOption result (f ≡ None) (λ xs. f ≡ Some (xs.items, left self.new)) }
@@ -89,6 +90,7 @@ impl<'a> Fields<'a> {
     }
 
     // All that is left, as at most N floats.
+    #[tactic(auto, using(crate::proofs::FloatLaws::rest_end, crate::proofs::FloatLaws::rest_next))]
     pub fn rest<const N: usize>(self) -> Option<ArrayVec<f64, N>>
         ensures { option_map (λ r. r.items) result ≡ rest_field N [] (left self.entry) }
     {

@@ -1,21 +1,12 @@
 -- `line_fields::Fields::rest` meets its contract: the floats read, with those still to come, are those of the line. Assumes nothing.
 use Rattle.std.proofs.Common.{sym, ◌∙◌, arith}
-use Rattle.line_fields.proofs.FloatLaws.{rest_end, rest_next, rest_full, rest_other, on_ok, is_ok, on_err}
+use Rattle.line_fields.proofs.FloatLaws.{rest_full, rest_other, on_err}
 use Rattle.line_fields.proofs.Fields.rest.Goals as goal
 
 pub returns-in_err-read_float : goal.returns-in_err-read_float
 returns-in_err-read_float g c = rw c.from_residual.ensures (sym (rest_other g.row.N c.loop-word.rest.items _ _ _ c.in-Some.ensures.steps (sym c.in_err-read_float.ensures)) ∙ c.loop-word.invariant.2)
 
-pub loop-word-preserved : goal.loop-word-preserved
-loop-word-preserved g c =
-    let pushed = on_ok c.try_push.result _ _ c.in_ok-ok.ensures.value c.try_push.ensures.ok in
-    let room = c.try_push.ensures.variant.0 (is_ok c.try_push.result _ c.in_ok-ok.ensures.value) in
-    (tt, tt, rw pushed (sym (rest_next g.row.N c.loop-word.rest.items _ _ _ c.in-Some.ensures.steps _ (sym c.in_ok-read_float.ensures) room) ∙ c.loop-word.invariant.2))
-
 pub returns-in_err-ok : goal.returns-in_err-ok
 returns-in_err-ok g c =
     let full = on_err c.try_push.result _ c.in_err-ok.ensures.value c.try_push.ensures.full in
     rw c.from_residual-in_err-ok.ensures (sym (rest_full g.row.N c.loop-word.rest.items _ _ _ c.in-Some.ensures.steps _ (sym c.in_ok-read_float.ensures) (omega arith)) ∙ c.loop-word.invariant.2)
-
-pub returns : goal.returns
-returns g c = sym (rest_end g.row.N c.loop-word.rest.items _ c.in-None.ensures.steps.0) ∙ c.loop-word.invariant.2
