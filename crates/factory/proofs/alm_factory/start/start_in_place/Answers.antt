@@ -1,7 +1,6 @@
-use Rattle.std.proofs.Common.{sym, ap, ◌∙◌, refl, arith}
+use Rattle.std.proofs.Common.{sym, ap, ◌∙◌, refl}
 use Rattle.panoc_core.specs.Numbers.{refusal_some}
 use Rattle.panoc_core.specs.Told.{number_of}
-use Rattle.factory.specs.FactoryLaws.{started, sound_n}
 use Rattle.factory.specs.FactoryStarts.{start_runs, start_refuses}
 use Rattle.factory.proofs.alm_factory.start.start_in_place.Goals as goal
 
