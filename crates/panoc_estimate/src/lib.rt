@@ -14,7 +14,7 @@ use panoc_core::lipschitz_estimator::{both_finite, gamma_of, sigma_of};
 use panoc_core::outcome::Refusal;
 use panoc_core::panoc_cache::{Outcome, Phase, Question, Reply};
 
-// COST at u is x.
+// COST at u is x. As panoc_first::on_first_cost, which says why the three are not one.
 #[tactic(auto, using(panoc_core::specs::Laws::cost_goes))]
 pub fn on_cost<'a>(x: f64, run: Lent<'a>) -> Outcome
     requires { (Sound (small run)) × (phase_in run ≡ Phase.Cost) }

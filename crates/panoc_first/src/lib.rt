@@ -30,7 +30,8 @@ pub fn on_direction<'a>(v: &[f64], run: Lent<'a>, at: Vectors<'a>) -> Outcome
     linesearch(v, run, at)
 }
 
-// COST at the first iterate is x. As panoc_search::on_tried_cost, but with another phase, and so another law of its phase.
+// COST at the first iterate is x. As panoc_estimate::on_cost and panoc_search::on_tried_cost, but with another phase, and so another law of its
+// phase: one for all would take the phase that follows, and its clause would have a case for each phase.
 #[tactic(auto, using(panoc_core::specs::Laws::first_cost_goes))]
 pub fn on_first_cost<'a>(x: f64, run: Lent<'a>) -> Outcome
     requires { (Sound (small run)) × (phase_in run ≡ Phase.FirstCost) }
@@ -45,7 +46,8 @@ pub fn on_first_cost<'a>(x: f64, run: Lent<'a>) -> Outcome
     )
 }
 
-// GRADIENT at the first iterate is v. As panoc_search::on_tried_gradient, but of u, with another phase and refusal, and so another law of its phase.
+// GRADIENT at the first iterate is v. As panoc_search::on_tried_gradient, but of u, with another phase and refusal, and so another law of its phase:
+// one for both would take the vector, the phase that follows and the refusal, and its clause would have a case for each phase.
 pub fn on_first_gradient<'a>(v: &[f64], run: Lent<'a>, at: Vectors<'a>) -> Outcome
     requires { (Sound (small run)) × (phase_in run ≡ Phase.FirstGradient) × (length v.now ≡ places_in run) }
     ensures goes { (b : Board) → Takes (small run.entry) (Over first (held at.entry) b) Reply.Vector v.now (gives result run.exit) (Over first (left at.exit) b) }

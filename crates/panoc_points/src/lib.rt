@@ -13,7 +13,7 @@ use panoc_places::lent::PointVectors;
 use panoc_places::{first_places, first_point, second_places};
 use panoc_wanted::{waits, wants};
 
-// Whether the run waits for an answer.
+// Whether the run waits for an answer. As alm_wanted::is_waiting, of another record: what the two share is waits.
 pub fn is_waiting(s: Solve) -> bool
     ensures { result ≡ waiting (wanted_of s) }
 {
@@ -42,6 +42,7 @@ pub fn points_in_place<'a>(
 }
 
 // The points of the question of a run by value.
+// As alm_points::points: each names the vectors of its own run, which is most of it.
 pub fn points(run: Run, first: &mut [f64], second: &mut [f64]) -> Result<(), Refusal>
     ensures { Points run first.old first.new second.old second.new (number_in result) }
 {

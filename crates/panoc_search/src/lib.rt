@@ -46,7 +46,7 @@ pub fn linesearch<'a>(v: &[f64], run: Lent<'a>, at: Vectors<'a>) -> Outcome
     to(Phase::TriedCost, Outcome::Asked(Question::Cost), w)
 }
 
-// COST at a candidate is x. As panoc_first::on_first_cost, which says why the two are not one.
+// COST at a candidate is x. As panoc_first::on_first_cost, which says why the three are not one.
 #[tactic(auto, using(panoc_core::specs::Laws::tried_cost_goes))]
 pub fn on_tried_cost<'a>(x: f64, run: Lent<'a>) -> Outcome
     requires { (Sound (small run)) × (phase_in run ≡ Phase.TriedCost) }

@@ -1,4 +1,5 @@
 // d_psi by value.
+// values_c has functions of these names that call these, as lib.rt says.
 use crate::last_number;
 use d_psi::answer;
 use d_psi_points::points;

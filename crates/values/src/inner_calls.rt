@@ -1,4 +1,5 @@
 // The inner solve by value.
+// values_c has functions of these names that call these, as lib.rt says.
 use crate::{last_number, next_reply};
 use panoc::panoc_optimizer::answer;
 use panoc_core::panoc_cache::{Outcome, Question, Reply, Settings};

@@ -1,4 +1,5 @@
 // Loops of by-value calls of the inner solve, psi and d_psi, to be timed by bench/values.sh. They are proved safe, and say nothing of what they give.
+// That a closure may be called is a clause wherever one is.
 // values_c has functions of these names that call these: a crate is a library or a static library, not both.
 #![tactic(auto)]
 

@@ -1,4 +1,5 @@
 // psi by value.
+// values_c has functions of these names that call these, as lib.rt says.
 use crate::last_number;
 use factory::alm_factory::{PsiOutcome, Sizes};
 use panoc_core::panoc_cache::Reply;
