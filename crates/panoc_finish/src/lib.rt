@@ -2,11 +2,12 @@
 // That a run is sound is a clause and no invariant: image::lent says why.
 #![tactic(auto, using(panoc_core::specs::Laws::sound_n))]
 
-ghost use Rattle.std.specs.Prelude.{◌≡◌, ◌≤◌, ◌∷◌, [], Float, get_or};
+ghost use Rattle.std.specs.Prelude.{◌≡◌, ◌≤◌, ◌∷◌, [], Float};
 ghost use Rattle.std.specs.Float.{binary64};
 ghost use Rattle.model.specs.Inner as I;
 ghost use Rattle.panoc_core.specs.Laws.{with_norms};
 ghost use Rattle.panoc_core.specs.Board.{Board, Sound, Finishes, set_of, state_at, set_gradient, set_previous, set_fpr};
+ghost use Rattle.panoc_finish.specs.Reads.{places_read};
 ghost use Rattle.image.specs.LentRun.{small, small_read, gives, held, left, norm_at, Only, Over, SameCounts, U, Half, Best};
 
 use image::lent::{Lent, LentRead, Vectors};
@@ -43,7 +44,7 @@ pub fn exit_condition<'a>(
     previous: &[f64; 64],
     fpr: &[f64; 64],
 ) -> bool
-    requires { get_or run.k.now 3 0 ≤ 64 }
+    requires { places_read run ≤ 64 }
     ensures { (y : Float) (b : Board) → result ≡ I.passes binary64 (set_of (small_read run.entry)) (state_at (with_norms norm y (small_read run.entry)) (set_gradient gradient.now (set_previous previous.now (set_fpr fpr.now b)))) }
 {
     let LentRead { w, k, f } = run;
