@@ -11,6 +11,7 @@ use image::lent::{Lent, Vectors};
 use image::places::N;
 use panoc_core::panoc_cache::Outcome;
 use panoc_steps::onward;
+use residual_sums::ResidualSums;
 
 // The candidate is taken: it becomes u, and its residual, of this norm squared and product with the gradient, is stored.
 pub fn take_candidate<'a>(
@@ -38,8 +39,7 @@ pub fn take_candidate<'a>(
     adopted_sums::adopt_into(plus, half, u, fpr, k[N]);
     let norm = numeric::sqrt(norm_squared);
     return onward(
-        norm,
-        product,
+        ResidualSums { norm, product },
         Lent { w, k, f },
         Vectors {
             u,

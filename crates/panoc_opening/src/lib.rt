@@ -38,8 +38,7 @@ pub fn on_project<'a>(v: &[f64], run: Lent<'a>, at: Vectors<'a>) -> Outcome
     put_steps(k[MAX_ITER], 0, k);
     put_status(ExitStatus::Converged, w);
     return panoc_step::step(
-        sums.norm,
-        sums.product,
+        sums,
         Lent { w, k, f },
         Vectors {
             u,

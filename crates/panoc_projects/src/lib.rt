@@ -36,8 +36,7 @@ pub fn on_first_project<'a>(v: &[f64], run: Lent<'a>, at: Vectors<'a>) -> Outcom
     vector_copies::take_into(v, half);
     let sums = residual_sums::residual_into(u, half, gradient, fpr, k[N]);
     return onward(
-        sums.norm,
-        sums.product,
+        sums,
         Lent { w, k, f },
         Vectors {
             u,

@@ -1,6 +1,6 @@
 // A step with its tests.
 // That a run is sound is a clause and no invariant: image::lent says why.
-// That norm and product are the residual's is a clause too: its vector is lent, and a record of the two could not hold it.
+// That the sums are the residual's is a clause too, and no invariant of their record: its vector is lent, and the record could not hold it.
 #![tactic(auto, using(panoc_core::specs::Laws::sound_n))]
 
 ghost use Rattle.std.specs.Prelude.{◌∷◌, []};
@@ -17,11 +17,11 @@ use panoc_core::panoc_cache::{
     Outcome, Phase, Question, cache_best_half_step, cache_previous_gradient,
 };
 use panoc_finish::{exit_condition, finish};
+use residual_sums::ResidualSums;
 
-// A step, from the residual with its norm and its product with the gradient: the previous gradient, the score, and the tests. What the
-// cost at the half step is held to is kept.
-pub fn step<'a>(norm: f64, product: f64, run: Lent<'a>, at: Vectors<'a>) -> Outcome
-    requires { (Sound (small run)) × (ResidualAt run at norm product) }
+// A step, from the residual with its sums: the previous gradient, the score, and the tests. What the cost at the half step is held to is kept.
+pub fn step<'a>(sums: ResidualSums, run: Lent<'a>, at: Vectors<'a>) -> Outcome
+    requires { (Sound (small run)) × (ResidualAt run at sums.norm sums.product) }
     ensures goes { (b : Board) → Steps (small run.entry) (Over six (held at.entry) b) (gives result run.exit) (Over six (left at.exit) b) }
     ensures vectors { Only (Previous ∷ Best ∷ []) (held at.entry) (left at.exit) }
     ensures counts { SameCounts run.entry run.exit }
@@ -40,12 +40,12 @@ pub fn step<'a>(norm: f64, product: f64, run: Lent<'a>, at: Vectors<'a>) -> Outc
     } = at;
     let n = k[N];
     cache_previous_gradient(k[DONE], gradient, previous, n);
-    let least = cache_best_half_step(norm, f[LEAST], half, best, n);
-    let ends = exit_condition(norm, LentRead { w, k, f }, gradient, previous, fpr);
-    put_norms(norm, least, f);
+    let least = cache_best_half_step(sums.norm, f[LEAST], half, best, n);
+    let ends = exit_condition(sums.norm, LentRead { w, k, f }, gradient, previous, fpr);
+    put_norms(sums.norm, least, f);
     if ends {
         return finish(
-            norm,
+            sums.norm,
             Lent { w, k, f },
             Vectors {
                 u,
@@ -60,7 +60,7 @@ pub fn step<'a>(norm: f64, product: f64, run: Lent<'a>, at: Vectors<'a>) -> Outc
             },
         );
     }
-    let rhs = lipschitz_check_rhs(f[COST], f[GAMMA], norm, product);
+    let rhs = lipschitz_check_rhs(f[COST], f[GAMMA], sums.norm, sums.product);
     put_search(f[TAU], rhs, f);
     to(Phase::HalfCost, Outcome::Asked(Question::Cost), w)
 }

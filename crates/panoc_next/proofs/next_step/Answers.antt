@@ -1,12 +1,10 @@
 use Rattle.image.specs.Rounds.{status_round}
 use Rattle.panoc_next.specs.Laws.{next_sound, next_lent}
-use mathlib.Core.Bool.{not}
-use borrow.Author.Tests.{eq-eqb, ne_eqb}
 use Rattle.panoc_core.specs.Laws.{sound_left, sound_count, next_none, next_asks}
 use Rattle.panoc_core.specs.Rest.{sound}
 use Rattle.image.specs.LentRun.{small, held, Over}
 use Rattle.panoc_step.specs.Names.{six}
-use Rattle.std.proofs.Common.{arith, refl, ap, ◌∙◌}
+use Rattle.std.proofs.Common.{arith, refl, sym, ◌∙◌}
 use Rattle.panoc_next.proofs.next_step.Goals as goal
 
 pub finish-requires : goal.finish-requires
@@ -20,9 +18,9 @@ returns-then-left-eq0-clause-goes c =
 pub overflow_add-done : goal.overflow_add-done
 overflow_add-done c = omega (arith, sound_left (small c.args.run) c.requires.0, sound_count (small c.args.run) c.requires.0)
 
-pub returns-then-run-ne0-clause-goes : goal.returns-then-run-ne0-clause-goes
-returns-then-run-ne0-clause-goes c =
-    λ b. rw (c.to.ensures.outcome, c.to.ensures.moved, c.put_steps.ensures) (next_asks (small c.args.run) (Over six (held c.args.at) b) _ _ c.requires.0 (omega (arith, c.if-left-eq0.false)) (ap not (ne_eqb _ _ c.if-run-ne0.true)) refl)
+pub returns-then-flag_of-clause-goes : goal.returns-then-flag_of-clause-goes
+returns-then-flag_of-clause-goes c =
+    λ b. rw (c.to.ensures.outcome, c.to.ensures.moved, c.put_steps.ensures) (next_asks (small c.args.run) (Over six (held c.args.at) b) _ _ c.requires.0 (omega (arith, c.if-left-eq0.false)) (sym c.flag_of.ensures ∙ c.if-flag_of.true) refl)
 
 pub step-requires : goal.step-requires
 unfolding sound
@@ -31,4 +29,4 @@ step-requires c =
 
 pub returns-clause-goes : goal.returns-clause-goes
 returns-clause-goes c =
-    λ b. next_lent c.args.run.w.now _ c.args.run.k.now _ c.args.run.f.now _ _ (omega (arith, c.if-left-eq0.false)) refl c.put_steps.ensures (Over six (held c.args.at) b) _ _ _ (ap not (eq-eqb _ _ c.if-run-ne0.false)) (λ s. status_round _ ∙ c.standing.ensures s) c.put_status-2.ensures (c.step.ensures.goes b)
+    λ b. next_lent c.args.run.w.now _ c.args.run.k.now _ c.args.run.f.now _ _ (omega (arith, c.if-left-eq0.false)) refl c.put_steps.ensures (Over six (held c.args.at) b) _ _ _ (sym c.flag_of.ensures ∙ c.if-flag_of.false) (λ s. status_round _ ∙ c.standing.ensures s) c.put_status-2.ensures (c.step.ensures.goes b)
