@@ -1,4 +1,4 @@
--- What the laws of panoc_core say of lent numbers after a step. Assumes nothing.
+-- What the laws of panoc_core say after a step. Assumes nothing.
 use Rattle.std.specs.Prelude.{◌≡◌, refl}
 use Rattle.panoc_core.specs.declared.panoc_cache.ExitStatus.{ExitStatus}
 use Rattle.panoc_core.specs.declared.panoc_cache.ExitStatus.TheVariants.{Converged, NotConvergedIterations, NotConvergedOutOfTime}
