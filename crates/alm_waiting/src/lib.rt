@@ -17,19 +17,19 @@ use panoc_core::refusals::Wanted;
 use panoc_wanted::wants_lent;
 
 // A run that no start made counts as one that has ended.
-#[tactic(auto, using(alm_image::proofs::Phases::not_last), unfolding(alm_core::specs::Rest::sound))]
+#[tactic(auto, unfolding(alm_core::specs::Rest::sound))]
 pub fn is_sound<'a>(run: LoopRead<'a>) -> bool
     ensures { result ≡ sound (loop_in run.entry) }
 {
     let LoopRead { k, lw, lk, .. } = run;
     let same = k[image::places::N] == lk[N];
     is_sized(lk[N], lk[N1], lk[N2], lk[MAX_INNER])
-        && (lw[PHASE] == AlmPhase::LastCost as u32
+        && (matches!(alm_phase_of(lw[PHASE]), AlmPhase::LastCost)
             || is_counted(lk[LEFT], lk[OUTER], lk[INNER], lk[FOUND], same))
 }
 
 // What the run waits for.
-#[tactic(auto, using(alm_image::proofs::Phases::not_inner), unfolding(alm_calls::specs::LoopCalls::wanted_of))]
+#[tactic(auto, unfolding(alm_calls::specs::LoopCalls::wanted_of))]
 pub fn wants<'a>(run: LoopRead<'a>) -> Option<Wanted>
     ensures { kind_of result ≡ wanted_of (loop_in run.entry) }
 {
@@ -37,9 +37,8 @@ pub fn wants<'a>(run: LoopRead<'a>) -> Option<Wanted>
         return None;
     }
     let LoopRead { w, k, lw, lk, .. } = run;
-    if lw[PHASE] == AlmPhase::Inner as u32 {
-        wants_lent(w, k)
-    } else {
-        wants_own(alm_phase_of(lw[PHASE]), lk[N1], lk[N2])
+    match alm_phase_of(lw[PHASE]) {
+        AlmPhase::Inner => wants_lent(w, k),
+        phase => wants_own(phase, lk[N1], lk[N2]),
     }
 }
