@@ -26,6 +26,8 @@ use Rattle.alm_calls.specs.LoopCalls.{wanted_of, run_of, rest_of, asking}
 use Rattle.alm_calls.proofs.LoopLaws.{wanted_is, wanted_phase}
 use Rattle.alm_vectors.specs.LoopPoints.{first_places, first_at}
 use Rattle.alm_points.specs.LoopPointLaws.{waits_facts}
+use Rattle.image.specs.Image as I
+use Rattle.alm_image.specs.AlmImage.{phase_of, alm_of}
 use Rattle.host_points.specs.Places as Inner
 use Rattle.host_loop_place.specs.Places.{holders, place_of, Lies}
 
@@ -84,9 +86,14 @@ module _ (s : Alm) (b : LoopBoard) (xs : List Float) where
   loop_lies P.LastCost z k v l e = sym e
   loop_lies P.Over z k v l e = none_held xs _ l
 
-pub lies : (s : Alm) (b : LoopBoard) (m : ℕ) → m ≡ place_of s.phase s.solve.phase → Lies s b m
+lies : (s : Alm) (b : LoopBoard) (m : ℕ) → m ≡ place_of s.phase s.solve.phase → Lies s b m
 lies s b m e q h =
     let w : waiting (wanted_of s) ≡ true = ap waiting (sym (wanted_is s b)) ∙ asking_waits (rest_of (run_of s b)) q h in
     let k = waiting_kind (wanted_of s) w in
     let f = waits_facts s b q w h in
     rw e (loop_lies s b (first_point q) s.phase refl k.0 k.1 f.0 (f.2 (first_point q) f.0))
+
+-- the same of lent numbers, whose phase is read as t
+pub lies_read : (w lw : List ℕ) (m : ℕ) (t : AlmPhase) → t ≡ phase_of (get_or lw 0 0) → m ≡ place_of t (I.phase_of (get_or w 0 0))
+    → (k lk : List ℕ) (f lf : List Float) (b : LoopBoard) → Lies (alm_of w k f lw lk lf) b m
+lies_read w lw m t e h k lk f lf b = lies (alm_of w k f lw lk lf) b m (h ∙ ap (λ (c : AlmPhase). place_of c (I.phase_of (get_or w 0 0))) e)
