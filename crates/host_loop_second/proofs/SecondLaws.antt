@@ -1,28 +1,23 @@
 -- The second point of a lent loop's question. Assumes nothing.
-use Prim.Native.Nat.{ℕ, ◌≤◌}
-use mathlib.Core.Path.{◌≡◌, refl, ap, ◌∙◌}
+use Prim.Native.Nat.{ℕ}
+use mathlib.Core.Path.{◌≡◌, refl}
 use mathlib.Core.Bool.{Bool, true, false, cond, ◌&&◌}
 use mathlib.Core.List.{List, []}
 use mathlib.Core.Option.{Option, none, some}
 use native.Mathlib.Omega.{arith}
 use lib.Dec.{eqb}
 use lib.Ieee.{Float}
-use lib.ListN.{length, get_or}
+use lib.ListN.{length}
 use Rattle.matrix_operations.specs.Firsts.{firsts}
 use Rattle.matrix_operations.specs.Laws.{length_firsts}
 use Rattle.model.specs.Process as M
 use Rattle.panoc_core.specs.Board.{waiting}
 use Rattle.alm_core.specs.declared.alm_cache.Alm.{Alm}
-use Rattle.alm_core.specs.declared.alm_cache.AlmPhase.TheVariants as P
 use Rattle.alm_core.specs.Rest.{LoopBoard}
-use Rattle.alm_core.specs.Board.{Sound}
 use Rattle.alm_core.specs.Values.{first_point, second_point}
 use Rattle.alm_calls.specs.LoopCalls.{wanted_of, run_of, points_refusal}
-use Rattle.alm_vectors.specs.LoopPoints.{carries_xi, first_places, second_places, first_at, second_at_phase}
+use Rattle.alm_vectors.specs.LoopPoints.{first_places, second_places, first_at, second_at_phase}
 use Rattle.alm_points.specs.LoopPointLaws.{points_over, points_second, points_given}
-use Rattle.alm_vectors.specs.VectorLaws.{room_with, room_without, sound_wide, sound_inner, xi_room}
-use Rattle.image.specs.Image as I
-use Rattle.alm_image.specs.AlmImage.{phase_of, alm_of}
 use Rattle.host_loop_second.specs.Second.{Second, second_refusal}
 
 -- ---- the number of the second point alone, from that of both
@@ -76,24 +71,3 @@ module _ (s : Alm) (b : LoopBoard) (ys : List Float) (t : Bool) (te : t ≡ wait
     second_refused h =
         let g = points_given s b first_like second_like t te q (first_at s b s.phase first_like) (second_at_phase s b.inner.u b.y s.phase second_like) (length_firsts _ _) (length_firsts _ _) refl refl in
         record { number = unfit _ _ _ _ g.number (points_second s b first_like ys t te q (length_firsts _ _) h).number; kept = λ m e. refl; point = λ e. absurd (omega arith) }
-
--- ---- room for the point, by the number of the phase
-module _ (w k : List ℕ) (f : List Float) (lw lk : List ℕ) (lf : List Float) where
-  abbrev loop : Alm
-  loop = alm_of w k f lw lk lf
-
-  module _ (p : get_or lw 0 0 ≡ 3) (t : Bool) (te : t ≡ carries_xi (I.phase_of (get_or w 0 0))) where
-    at : second_places loop (phase_of (get_or lw 0 0)) ≡ second_places loop P.Inner
-    at = ap (λ (m : ℕ). second_places loop (phase_of m)) p
-
-    module _ (ok : Sound loop) (ys : List Float) (h : length ys ≡ second_places loop (phase_of (get_or lw 0 0))) where
-      pub room_xi : t ≡ true → length ys ≤ 33
-      room_xi q = room_with loop t te q (sound_wide loop ok).1 (h ∙ at)
-
-      pub room_own : t ≡ false → length ys ≤ 64
-      room_own q = room_without loop t te q (sound_inner loop ok (ap phase_of p)) (h ∙ at)
-
-  -- the last COST
-  module _ (p : get_or lw 0 0 ≡ 7) where
-    pub room_last : (ys : List Float) → Sound loop → length ys ≡ second_places loop (phase_of (get_or lw 0 0)) → length ys ≤ 33
-    room_last ys ok h = omega (arith, xi_room (get_or lk 5 0) (get_or lk 6 0) (sound_wide loop ok).1, h ∙ ap (λ (m : ℕ). second_places loop (phase_of m)) p)
