@@ -1,5 +1,6 @@
 // Which handler of the loop takes an answer: one of the inner solve, by its own dispatch, or one of the loop. Each arm lends its
-// handler the vectors that it works on. That nothing refuses the answer is a clause and no invariant: image::lent says why.
+// handler the vectors that it works on. That nothing refuses the answer is a clause and no invariant: image::lent says why;
+// and so is that the phase is not Inner: alm_wanted says why.
 #![tactic(auto)]
 
 ghost use Rattle.std.specs.Prelude.{◌≡◌, true, length};

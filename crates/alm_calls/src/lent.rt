@@ -14,7 +14,8 @@ pub fn lent_fits(set: AlmSettings, us: usize, places: usize) -> bool
     us == set.n && xi_fits(set.n1, set.n2, places)
 }
 
-// The penalty goes into place 0 of a xi that is not empty, and the multipliers into the part from place 1 on.
+// The penalty goes into place 0 of a xi that is not empty, and the multipliers into the part from place 1 on: document 01 names that part, and it is
+// lent on, so no split_first_mut.
 #[tactic(auto, unfolding(crate::specs::LoopCalls::xi_given))]
 pub fn fill_xi(penalty: f64, y: &[f64; 64], xi: &mut [f64])
     requires { length xi.old ≤ 33 }

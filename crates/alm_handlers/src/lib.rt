@@ -1,5 +1,5 @@
-// The handlers of the loop's own questions. `Ready s` is a clause and no invariant of Alm: alm_iterations says why. A `return` ends those that
-// put a record together anew, as alm_image::records says.
+// The handlers of the loop's own questions. `Ready s` is a clause and no invariant of Alm: alm_iterations says why; and so is that an answer
+// has its places: image::lent says why. A `return` ends those that put a record together anew, as alm_image::records says.
 #![tactic(auto, using(alm_core::specs::Laws::sized_n1, alm_core::specs::Laws::sized_n2))]
 
 ghost use Rattle.std.specs.Prelude.{◌≡◌, ◌∷◌, true, [], length};

@@ -83,7 +83,7 @@ pub fn points_in_place<'a>(
     Ok(())
 }
 
-// The points of the question of a run by value.
+// The points of the question of a run by value. As panoc_points::points: each names the vectors of its own run, which is most of it.
 pub fn points(run: AlmRun, first: &mut [f64], second: &mut [f64]) -> Result<(), Refusal>
     ensures { Points run first.old first.new second.old second.new (number_in result) }
 {

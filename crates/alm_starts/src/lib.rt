@@ -1,4 +1,4 @@
-// The start of the multiplier loop: its tests, and the run before its first outer iteration. The arrays are lent one by one, as C lends them.
+// The start of the multiplier loop: its tests, and the run before its first outer iteration.
 #![tactic(auto)]
 
 ghost use Rattle.std.specs.Prelude.{◌≡◌};
@@ -68,7 +68,8 @@ pub fn start_refusal(set: AlmSettings, us: usize, xi: &[f64]) -> Option<Refusal>
     (!xi_right(xi)).then_some(Refusal::Multipliers)
 }
 
-// A run in place that is begun at first and xi, or its refusal.
+// A run in place that is begun at plan and xi, or its refusal.
+// Three arrays of one call: a record of them would be made at both callers and shorten no clause.
 #[tactic(auto, using(alm_calls::proofs::LoopLaws::start_plan, alm_calls::proofs::LoopLaws::start_xi, alm_calls::proofs::LoopLaws::start_left))]
 pub fn start_in_place(
     set: AlmSettings,

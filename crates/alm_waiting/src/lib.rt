@@ -1,5 +1,5 @@
 // What a lent loop waits for, read off its numbers: alm_wanted has the tests. Through the record, by `alm_wanted::wants` of `alm_of`, it takes 1.2
-// to 1.4 times as long.
+// to 1.4 times as long, and the form over the numbers is what stood before.
 #![tactic(auto)]
 
 ghost use Rattle.std.specs.Prelude.{◌≡◌};

@@ -1,5 +1,5 @@
 // What a run of the loop waits for, read off its record; alm_waiting reads the same off lent numbers, by the same functions of the numbers, since
-// through the record a call for C takes 1.2 to 1.4 times as long there.
+// through the record a call for C takes 1.2 to 1.4 times as long there, and the form over the numbers is what stood before.
 #![tactic(auto)]
 
 ghost use Rattle.std.specs.Prelude.{◌≡◌, eqb};
@@ -48,6 +48,7 @@ pub fn is_sound(s: Alm) -> bool
 }
 
 // What a run that waits with a question of the loop itself waits for: one match over the enum, plainer than a table.
+// That the phase is not Inner is a clause: a type of the other phases would be made of AlmPhase at each call.
 pub fn wants_own(phase: AlmPhase, n1: usize, n2: usize) -> Option<Wanted>
     requires { phase ≡ P.Inner → ⊥ }
     ensures { (s : Alm) → s.set.n1 ≡ n1 → s.set.n2 ≡ n2 → kind_of result ≡ wanted_at s phase }
@@ -75,7 +76,7 @@ pub fn wants(s: Alm) -> Option<Wanted>
     }
 }
 
-// Whether the run waits for an answer.
+// Whether the run waits for an answer. As panoc_points::is_waiting, of another record.
 pub fn is_waiting(s: Alm) -> bool
     ensures { result ≡ waiting (wanted_of s) }
 {

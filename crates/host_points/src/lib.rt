@@ -47,7 +47,7 @@ pub extern "C" fn pozkerrin_inner_points<'a>(
 }
 
 // The vector that holds the first point of a phase's question: 0 u, 1 the candidate, 2 the gradient step, 3 the half step, 4 the residual,
-// 5 the best half step. A number, since C reads it.
+// 5 the best half step. A number, as image::told says of the kinds.
 pub fn place_of(phase: Phase) -> u32
     ensures { result ≡ place_of phase }
 {
@@ -62,6 +62,7 @@ pub fn place_of(phase: Phase) -> u32
 }
 
 // Where the first point of the question of a run lies: the number of the vector that has it in its first places.
+// host_c has a function of this name that calls this one: a crate is a library or a static library, not both.
 #[unsafe(no_mangle)]
 pub extern "C" fn pozkerrin_inner_place(w: &[u32; 6]) -> u32
     ensures { (k : List ℕ) (f : List Float) (b : Board) → Lies (run_of (solve_of w.now k f) b) b result }

@@ -1,5 +1,7 @@
 // An answer of any kind to a lent loop that nothing refuses.
-// The result is the kind that the call for C returns. That nothing refuses the answer is a clause and no invariant: image::lent says why.
+// The result is the kind that the call for C returns, a number, as image::told says. That nothing refuses the answer is a clause and no invariant:
+// image::lent says why. So is which question is answered: alm_wanted says why. plan and xi are lent one by one, and an end hands out each by a call
+// of its own.
 #![tactic(auto)]
 
 ghost use Rattle.alm_core.specs.LentLoop.{held, left};
@@ -8,6 +10,7 @@ ghost use Rattle.lent_loop.specs.Lent.{Accepted, AsksInner, AsksItself, AnswersL
 
 use alm_core::alm_cache::AlmPhase;
 use alm_core::lent::{LoopVectors, OuterVectors, OwnVectors};
+use alm_image::kinds::alm_phase_of;
 use alm_image::places::PHASE;
 use alm_image::records::LoopLent;
 use image::lent::{Lent, Vectors};
@@ -133,8 +136,8 @@ pub fn answer_accepted<'a>(
     requires { Accepted (loop_held run) a v.now plan.old xi.old }
     ensures { AnswersLent a v.now run.entry (held at.entry) plan xi (loop_told result run.exit) (left at.exit) }
 {
-    if run.lw[PHASE] == AlmPhase::Inner as u32 {
-        return answer_inner(run, a, v, plan, xi, at);
+    match alm_phase_of(run.lw[PHASE]) {
+        AlmPhase::Inner => answer_inner(run, a, v, plan, xi, at),
+        _ => answer_own(run, a, v, plan, xi, at),
     }
-    answer_own(run, a, v, plan, xi, at)
 }

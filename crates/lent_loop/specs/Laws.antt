@@ -132,7 +132,7 @@ module _ (w k : List ℕ) (f : List Float) (lw lk : List ℕ) (lf : List Float) 
   told = alm_of w k f lw lk lf
 
   -- it asks on
-  pub carried_asks : get_or lw 0 0 ≡ 3 → Ready told → get_or k 3 0 ≡ get_or lk 4 0 → (q : Question) (m : ℕ) (w' : List ℕ) (u best y plus us xs : List Float) → r ≡ Gives.Asked q
+  pub carried_asks : told.phase ≡ P.Inner → Ready told → get_or k 3 0 ≡ get_or lk 4 0 → (q : Question) (m : ℕ) (w' : List ℕ) (u best y plus us xs : List Float) → r ≡ Gives.Asked q
       → m ≡ question_number (Q.Inner q) → w' ≡ noted m w → Carried told (I.step_of r w k f) (told_of 0 w' k f lw lk lf) u best y plus u y us us xs xs
   carried_asks p h n q m w' u best y plus us xs z me we =
       record {
@@ -144,7 +144,7 @@ module _ (w k : List ℕ) (f : List Float) (lw lk : List ℕ) (lf : List Float) 
       same =
           ap (λ (c : List ℕ). told_of 0 c k f lw lk lf) we
           ∙ ap (λ (c : AlmQuestion). record { outcome = Asked c; state = told }) (ap question_of me ∙ inner_round q)
-          ∙ ap (λ (c : AlmPhase). record { outcome = Asked (Q.Inner q); state = at_phase c told }) (ap phase_of p)
+          ∙ ap (λ (c : AlmPhase). record { outcome = Asked (Q.Inner q); state = at_phase c told }) p
 
   -- the loop goes on from x, read off the numbers, and has come to o
   module _ (x : Step) (q : Alm) (ex : x ≡ I.step_of r w k f) (eq : q ≡ told) where
@@ -167,30 +167,30 @@ module _ (w k : List ℕ) (f : List Float) (lw lk : List ℕ) (lf : List Float) 
           subst (λ (j : LoopStep). Carried told (I.step_of r w k f) j u best y plus u' y' us ws xs zs) (sym h.0) (record { carries = carries_as; hands = h.1 })
 
 -- ---- an accepted answer to the inner solve that a lent loop carries: its numbers are w, k and f before and w', k' and f' after, and r is what it gave
-module _ (w k : List ℕ) (f : List Float) (lw lk : List ℕ) (lf : List Float) (a : Reply) (v us xs : List Float) (acc : Accepted (alm_of w k f lw lk lf) a v us xs) (p : get_or lw 0 0 ≡ 3) where
+module _ (w k : List ℕ) (f : List Float) (lw lk : List ℕ) (lf : List Float) (a : Reply) (v us xs : List Float) (acc : Accepted (alm_of w k f lw lk lf) a v us xs) (p : phase_of (get_or lw 0 0) ≡ P.Inner) where
   abbrev loop : Alm
   loop = alm_of w k f lw lk lf
 
   pub take_may : answer_refusal (InnerBoard.wanted_of (solve_of w k f)) (Inner.reply_of a) (length v) true ≡ 0
-  take_may = inner_refusal_lem loop a (length v) (may loop a v us xs acc) (ap phase_of p)
+  take_may = inner_refusal_lem loop a (length v) (may loop a v us xs acc) p
 
   module _ (b : LoopBoard) (i : Board) (r : Outcome Question SolverStatus) (w' k' : List ℕ) (f' : List Float) (t : InnerBoard.Takes (solve_of w k f) b.inner a v (I.step_of r w' k' f') i) where
     abbrev after : Alm
     after = alm_of w' k' f' lw lk lf
 
     carry_facts : (Ready after) × (get_or k' 3 0 ≡ get_or lk 4 0) × EndsWithin (numbered r)
-    carry_facts = on_may loop a v us xs acc (ap phase_of p) b (I.step_of r w' k' f') i t (I.step_of r w' k' f') after refl refl
+    carry_facts = on_may loop a v us xs acc p b (I.step_of r w' k' f') i t (I.step_of r w' k' f') after refl refl
 
     carry_reached : Reached after (I.step_of r w' k' f') i.u i.best
     carry_reached =
         let q : M.Solve = accept (rest (InnerBoard.run_of (solve_of w k f) b.inner)) (Inner.reply_of a) v in
         record { process = q; board = i; comes = subst (λ (c : Settings). InnerBoard.Comes c q (I.step_of r w' k' f') i) (sym t.settings) t }
 
-    pub carry_may : (length us ≤ 64) × (length xs ≤ 33) × (get_or lw 0 0 ≡ 3) × (Ready after) × (get_or k' 3 0 ≡ get_or lk 4 0) × (EndsWithin (numbered r)) × (Reached after (I.step_of r w' k' f') i.u i.best)
+    pub carry_may : (length us ≤ 64) × (length xs ≤ 33) × (phase_of (get_or lw 0 0) ≡ P.Inner) × (Ready after) × (get_or k' 3 0 ≡ get_or lk 4 0) × (EndsWithin (numbered r)) × (Reached after (I.step_of r w' k' f') i.u i.best)
     carry_may = (short loop a v us xs acc, short_xi loop a v us xs acc, p, carry_facts.0, carry_facts.1, carry_facts.2, carry_reached)
 
     pub carried_answers : (o : LoopStep) (u y ws zs : List Float) → Carried after (I.step_of r w' k' f') o i.u i.best b.y b.y_plus u y us ws xs zs
         → Answers (run_of loop b) a v us ws xs zs (gave o (record { inner = InnerBoard.set_u u i; y = y; y_plus = b.y_plus; w = b.w }))
     carried_answers o u y ws zs c =
         settles loop a v us xs acc b (record { inner = InnerBoard.set_u u i; y = y; y_plus = b.y_plus; w = b.w }) o o ws zs
-        (on_takes loop a v us xs acc (ap phase_of p) b (I.step_of r w' k' f') i t (I.step_of r w' k' f') after o u y refl refl c.carries) (refl, c.hands)
+        (on_takes loop a v us xs acc p b (I.step_of r w' k' f') i t (I.step_of r w' k' f') after o u y refl refl c.carries) (refl, c.hands)

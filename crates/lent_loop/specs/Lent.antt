@@ -11,6 +11,7 @@ use Rattle.panoc_core.specs.Values as Inner
 use Rattle.panoc_core.specs.Board as InnerBoard
 use Rattle.panoc_core.specs.Board.{Lent}
 use Rattle.alm_core.specs.declared.alm_cache.Alm.{Alm}
+use Rattle.alm_core.specs.declared.alm_cache.AlmPhase.TheVariants as P
 use Rattle.alm_core.specs.Rest.{LoopBoard}
 use Rattle.alm_core.specs.Board.{Carries, Ready, EndsWithin, four}
 use Rattle.alm_core.specs.LentLoop.{OuterLeft}
@@ -46,7 +47,7 @@ inner_gave o run = I.step_of o run.w.now run.k.now run.f.now
 
 -- the loop asks by its inner solve
 abbrev pub AsksInner : LoopLent → Type 0
-AsksInner run = get_or run.lw.now 0 0 ≡ 3
+AsksInner run = (loop_held run).phase ≡ P.Inner
 
 -- it asks by itself
 abbrev pub AsksItself : LoopLent → Type 0

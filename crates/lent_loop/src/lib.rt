@@ -15,7 +15,7 @@ use image_puts::note;
 use lent_places::finish;
 use panoc_core::panoc_cache::{Outcome, Stepped};
 
-// The loop goes on from what the inner solve gave, o. The result is the kind that the call for C returns.
+// The loop goes on from what the inner solve gave, o. The result is the kind that the call for C returns, a number, as image::told says.
 fn go_on<'a>(
     o: Outcome,
     run: LoopLent<'a>,
@@ -66,7 +66,7 @@ fn go_on<'a>(
 }
 
 // What the inner solve gave, o, is carried out: it asks on, and no more than that is written, or the loop goes on from its end.
-// The result is the kind that the call for C returns.
+// The result is the kind that the call for C returns, as above.
 pub fn carry<'a>(
     o: Outcome,
     run: LoopLent<'a>,

@@ -1,5 +1,6 @@
 // An answer to a question of the loop itself on lent numbers that nothing refuses.
-// The result is the kind that the call for C returns. That nothing refuses the answer is a clause and no invariant: image::lent says why.
+// The result is the kind that the call for C returns, a number, as image::told says. That nothing refuses the answer is a clause and no invariant:
+// image::lent says why. So is that the loop itself asks: alm_wanted says why. plan and xi one by one: lent_accepted says why.
 #![tactic(auto)]
 
 ghost use Rattle.std.specs.Prelude.{[]};
@@ -64,7 +65,7 @@ pub fn own_number<'a>(
 }
 
 // An answer to a question of the loop itself.
-#[tactic(auto, using(lent_loop::specs::Laws::own_may, alm_image::proofs::Phases::not_inner))]
+#[tactic(auto, using(lent_loop::specs::Laws::own_may))]
 pub fn own<'a, 'b>(
     run: LoopLent<'a>,
     a: Reply,

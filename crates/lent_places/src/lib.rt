@@ -23,8 +23,8 @@ pub fn fits(lk: &[usize; 10], us: usize, places: usize) -> bool
     us == lk[N] && xi_fits(lk[N1], lk[N2], places)
 }
 
-// What a step of the loop gave: the lent places of an end, and all numbers. The result is the kind that the call for C returns.
-// Of the vectors it reads u and y_plus alone.
+// What a step of the loop gave: the lent places of an end, and all numbers. The result is the kind that the call for C returns,
+// a number, as image::told says. Of the vectors it reads u and y_plus alone.
 pub fn finish<'a>(
     o: AlmStepped,
     run: LoopLent<'a>,
