@@ -9,6 +9,7 @@ ghost use Rattle.host_loop_number.specs.Eight.{eight};
 
 use alm_core::alm_cache::AlmPhase;
 use alm_core::lent::OuterVectors;
+use alm_image::kinds::alm_phase_of;
 use alm_image::places::PHASE;
 use alm_image::records::{LoopLent, LoopRead};
 use alm_waiting::wants;
@@ -57,7 +58,7 @@ pub extern "C" fn pozkerrin_loop_number(
     if let Some(refusal) = refusal(wanted, Reply::Number(x), 0, fits) {
         return refuse(refusal, w);
     }
-    if lw[PHASE] == AlmPhase::Inner as u32 {
+    if let AlmPhase::Inner = alm_phase_of(lw[PHASE]) {
         let o = on_number(
             x,
             Lent { w, k, f },
