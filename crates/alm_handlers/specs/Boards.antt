@@ -1,5 +1,4 @@
 -- The loop's board with the vectors that an answer is worked out with as a handler's record holds them; b is the board of the others. Definitions only.
-use Rattle.std.specs.Prelude.{List, Float}
 use Rattle.alm_core.specs.Rest.{LoopBoard}
 use Rattle.alm_core.specs.Board.{five, set_y, set_y_plus, set_w}
 use Rattle.alm_core.specs.LentLoop.{OwnLeft}

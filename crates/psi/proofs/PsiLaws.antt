@@ -13,10 +13,10 @@ use Rattle.ieee.specs.Sums.{squares}
 use Rattle.matrix_operations.specs.Firsts.{firsts}
 use Rattle.model.specs.Constants.{one, two}
 use Rattle.model.specs.Vectors.{minus, plus_over}
-use Rattle.model.specs.Process.{Kind, handed, refused, failed, ask, stop}
+use Rattle.model.specs.Process.{Kind, refused, ask}
 use Rattle.model.specs.Process as M
 use Rattle.model.specs.Psi as S
-use Rattle.model.specs.Refusals.{answer_refusal, wanted, accept, replied, go_on, as_number, as_vector, remains}
+use Rattle.model.specs.Refusals.{answer_refusal, wanted}
 use Rattle.model.specs.Refusals as R
 use Rattle.panoc_core.specs.Values.{reply_of}
 use Rattle.panoc_core.specs.declared.panoc_cache.Reply.{Reply}
