@@ -2,7 +2,7 @@
 #![tactic(auto)]
 
 // The public calls take any run, also one that no start made: `wants` tests its sizes once, and the handlers are told that they are sound.
-// That is a clause and no invariant, as image::lent says; n ≤ 64 is one, as matrix_operations says.
+// That is a clause and no invariant, as image::lent says; n ≤ 64 is one, and so is that v has at most 64 places, as matrix_operations says.
 // Beside the handlers of psi, which have other phases and other vectors: each is a few calls of what both share.
 // A handler of one vector or two is lent these alone; a handler of three takes the lent vectors whole, and says which stay.
 ghost use Rattle.std.specs.Prelude.{◌≡◌, true, ◌≤◌, length};

@@ -1,4 +1,4 @@
--- Lists of the lengths of w and f, spelled out, and a small part made anew. Assumes nothing.
+-- Lists of the lengths of w and f, spelled out. Assumes nothing.
 use Rattle.std.specs.Prelude.{ℕ, ◌≡◌, refl, List, [], ◌∷◌, Float, get_or, length}
 use Rattle.std.proofs.Common.{arith}
 use Rattle.std.specs.Float.{nan}

@@ -1,5 +1,5 @@
 // What the lent numbers of psi and of d_psi have alike: w and k. The value is psi's alone, and with it the length of f: one function for both
-// would take a trait of two lines.
+// would take a trait of two lines, whose law would say what both clauses say.
 ghost use Rattle.std.specs.Prelude.{◌≡◌};
 ghost use Rattle.panoc_core.specs.Told.{numbered};
 ghost use Rattle.psi_image.specs.PsiImage.{sizes_of, noted, Tells};
