@@ -2,7 +2,8 @@
 """corners.py [--check]: writes the specs of crates corners and loop_corners, the runs of oracle/corners.txt as theorems on the definitions.
 
 The questions, points, ends and lent places are what `oracle expect` prints, which runs the Rust files unchanged. Left out are calls that
-lend other places than the start's (`lend`), and runs with lines of another form, of more than 12 places or of more than 80 lines.
+lend other places than the start's (`lend`), lines of ready-made sets, which are of no run, and runs with lines of another form, of more than 12
+places or of more than 80 lines.
 oracle/build.sh comes first. --check writes nothing and fails where a stored file differs."""
 import re
 import sys
@@ -10,6 +11,7 @@ import sys
 from by_hand import TOP, expect, number, word
 
 STARTS = ("inner", "loop", "psi", "d_psi")
+SETS = ("sets", "box", "ball", "onto", "show_onto")
 MOST_PLACES, MOST_LINES = 12, 80
 
 
@@ -40,7 +42,7 @@ def runs():
             text = plain(line) if not line.startswith("! ") else line
             if text.split(" ")[0] in STARTS:
                 found.append((heading, [text]))
-            elif found and text != "show":
+            elif found and text.removeprefix("! ").split(" ")[0] not in ("show", *SETS):
                 found[-1][1].append(text)
     return found
 

@@ -1,16 +1,18 @@
-//! Document 01's table, rows 1 to 9, and the domain of the comparison.
+//! Document 01's table, rows 1 to 9 and 19, and the domain of the comparison.
 
 use crate::reference::words::Line;
 use crate::reference::Wants;
 use crate::start::{Call, Start};
 
-/// The number by which a start is refused; the lower comes first.
+/// The number by which a start is refused; the lower comes first, but 19 after 1 and before 2.
 pub fn start(s: &Start) -> Option<u8> {
     let has_mappings = s.call != Call::Inner;
     let has_limits = matches!(s.call, Call::Inner | Call::Loop);
     let has_loop = s.call == Call::Loop;
 
     let n_wrong = s.n < 1 || s.n > 64 || s.u.len() as u64 != s.n;
+    let takes_any_u = matches!(s.call, Call::Psi | Call::DPsi);
+    let u_wrong = !takes_any_u && s.u.iter().any(|x| !x.is_finite());
     let xi_places = if s.n1 == 0 && s.n2 == 0 {
         0
     } else {
@@ -36,6 +38,8 @@ pub fn start(s: &Start) -> Option<u8> {
 
     if n_wrong {
         Some(1)
+    } else if u_wrong {
+        Some(19)
     } else if has_mappings && mappings_wrong {
         Some(2)
     } else if (has_limits && m_wrong) || (has_loop && k_wrong) {

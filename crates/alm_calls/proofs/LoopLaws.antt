@@ -18,6 +18,7 @@ use Rattle.model.specs.Process as M
 use Rattle.model.specs.Loop as L
 use Rattle.model.specs.Loop.{xi_of}
 use Rattle.model.specs.Refusals as R
+use Rattle.model.proofs.Table.{loop_rows}
 use Rattle.model.specs.Refusals.{answer_refusal, fits_kind, fits_length, fits_places, as_number, as_vector, as_decision, wanted, accept, replied, go_on, remains, xi_length}
 use Rattle.panoc_core.specs.Values.{reply_of, kind_of, decided, Says, Step}
 use Rattle.panoc_core.specs.Rest as InnerRest
@@ -410,20 +411,13 @@ unfolding L.iterations
 iterations_suc w k l st e = ap (λ (n : ℕ). L.iterations binary64 w n M.converged st) e
 
 -- ---- a run that is begun
-module _ (s : AlmSettings) (us : ℕ) (xi : List Float) (e : R.loop_refusal binary64 (settings_of s) us xi ≡ 0) where
-  tests : (R.sizes_right s.n us ≡ true) × (R.mappings_right s.n1 s.n2 s.has_set_y (length xi) ≡ true) × (limits_right s ≡ true)
-  unfolding R.unless R.loop_refusal limits_right
-  tests = by (R.sizes_right s.n us) (R.mappings_right s.n1 s.n2 s.has_set_y (length xi)) (limits_right s) refl refl refl e
-    where
-      by : (a b c : Bool) → R.sizes_right s.n us ≡ a → R.mappings_right s.n1 s.n2 s.has_set_y (length xi) ≡ b → limits_right s ≡ c
-          → R.unless a 1 (R.unless b 2 (R.unless c 3 (R.unless (R.loop_numbers_right binary64 (settings_of s)) 4 (R.unless (R.xi_right xi) 5 0)))) ≡ 0
-          → (R.sizes_right s.n us ≡ true) × (R.mappings_right s.n1 s.n2 s.has_set_y (length xi) ≡ true) × (limits_right s ≡ true)
-      by true true true p q r w = (p, q, r)
-      by true true false p q r w = absurd (omega arith)
-      by true false c p q r w = absurd (omega arith)
-      by false b c p q r w = absurd (omega arith)
+module _ (s : AlmSettings) (plan xi : List Float) (e : R.loop_refusal binary64 (settings_of s) plan xi ≡ 0) where
+  -- an accepted start passed the tests
+  tests : (R.sizes_right s.n (length plan) ≡ true) × (R.mappings_right s.n1 s.n2 s.has_set_y (length xi) ≡ true) × (limits_right s ≡ true)
+  unfolding limits_right
+  tests = let passed = (loop_rows binary64 (settings_of s) plan xi).none.0 e in (passed.0, passed.1.1.0, passed.1.1.1.0)
 
-  start_n : (s.n ≤ 64) × (us ≡ s.n)
+  start_n : (s.n ≤ 64) × (length plan ≡ s.n)
   unfolding R.sizes_right
   start_n = let w = and_right (ltb 0 s.n) _ tests.0 in (leb-true _ _ (and_left (leb s.n 64) _ w), eqb-true _ _ (and_right (leb s.n 64) _ w))
 
@@ -440,7 +434,7 @@ module _ (s : AlmSettings) (us : ℕ) (xi : List Float) (e : R.loop_refusal bina
       let w = and_right (ltb 0 s.max_inner_iterations && leb s.max_inner_iterations 10000) _ tests.2 in
       (leb-true _ _ (and_right (ltb 0 s.max_inner_iterations) _ (and_left (ltb 0 s.max_inner_iterations && leb s.max_inner_iterations 10000) _ tests.2)), ltb-true _ _ (and_left (ltb 0 s.max_outer_iterations) _ w), leb-true _ _ (and_right (ltb 0 s.max_outer_iterations) _ w))
 
-  pub start_plan : us ≤ 64
+  pub start_plan : length plan ≤ 64
   start_plan = omega (arith, start_n.0, start_n.1)
 
   pub start_xi : length xi ≤ 33
@@ -468,13 +462,12 @@ module _ (s : AlmSettings) (us : ℕ) (xi : List Float) (e : R.loop_refusal bina
       by (x ∷ xs) true false p q w = omega (arith, w ∙ xi_length_lem s.n1 s.n2 true false p q)
       by (x ∷ xs) false j p q w = omega (arith, w ∙ xi_length_lem s.n1 s.n2 false j p q)
 
-  pub start_runs : (plan : List Float) → length plan ≡ us → (c : Float) (t : Alm) (b : LoopBoard) (r : LoopStep) → c ≡ R.penalty_in xi → t ≡ first_alm s c (s.max_outer_iterations - 1)
+  pub start_runs : (c : Float) (t : Alm) (b : LoopBoard) (r : LoopStep) → c ≡ R.penalty_in xi → t ≡ first_alm s c (s.max_outer_iterations - 1)
       → firsts (length plan) b.inner.u ≡ plan → firsts (length (R.multipliers_in xi)) b.y ≡ R.multipliers_in xi → firsts (length (R.multipliers_in xi)) b.y_plus ≡ R.multipliers_in xi
       → Comes t.set (L.begins binary64 (set_of t) (next_of t b) (state_of t b)) r b → Begins s plan xi r b
   unfolding R.start_loop R.or_refused L.loop L.first_state
-  start_runs plan pl c t b r cv tv uv yv zv k =
-      let n≡ : length plan ≡ s.n = pl ∙ start_n.1 in
-      let u≡ : firsts s.n b.inner.u ≡ plan = subst (λ (m : ℕ). firsts m b.inner.u ≡ plan) n≡ uv in
+  start_runs c t b r cv tv uv yv zv k =
+      let u≡ : firsts s.n b.inner.u ≡ plan = subst (λ (m : ℕ). firsts m b.inner.u ≡ plan) start_n.1 uv in
       let y≡ : firsts s.n1 b.y ≡ R.multipliers_in xi = subst (λ (m : ℕ). firsts m b.y ≡ R.multipliers_in xi) multipliers_length yv in
       let z≡ : firsts s.n1 b.y_plus ≡ R.multipliers_in xi = subst (λ (m : ℕ). firsts m b.y_plus ≡ R.multipliers_in xi) multipliers_length zv in
       let k₁ = subst (λ (z : Alm). Comes z.set (L.begins binary64 (set_of z) (next_of z b) (state_of z b)) r b) tv k in
@@ -486,8 +479,7 @@ module _ (s : AlmSettings) (us : ℕ) (xi : List Float) (e : R.loop_refusal bina
       (subst (λ (z : List Float). made c z (firsts s.n1 b.y) (firsts s.n1 b.y_plus) (of_bits binary64 0)) u≡ k₁)))) in
       let K : s.max_outer_iterations ≡ suc (s.max_outer_iterations - 1) = omega (arith, start_limits.1) in
       let run≡ : R.start_loop binary64 (settings_of s) plan xi ≡ L.begins binary64 (settings_of s) (L.iterations binary64 (settings_of s) (s.max_outer_iterations - 1)) (L.first_state binary64 (settings_of s) plan (R.penalty_in xi) (R.multipliers_in xi)) =
-      ap (λ (m : ℕ). R.or_refused (R.loop_refusal binary64 (settings_of s) m xi) (L.loop binary64 (settings_of s) plan (R.penalty_in xi) (R.multipliers_in xi))) pl
-      ∙ ap (λ (m : ℕ). R.or_refused m (L.loop binary64 (settings_of s) plan (R.penalty_in xi) (R.multipliers_in xi))) e
+      ap (λ (m : ℕ). R.or_refused m (L.loop binary64 (settings_of s) plan (R.penalty_in xi) (R.multipliers_in xi))) e
       ∙ iterations_suc (settings_of s) s.max_outer_iterations (s.max_outer_iterations - 1) _ K in
       record { settings = k₂.settings; outcome = k₂.outcome ∙ sym (ap said run≡); process = k₂.process ∙ sym (ap remains run≡) }
     where
@@ -498,12 +490,12 @@ module _ (s : AlmSettings) (us : ℕ) (xi : List Float) (e : R.loop_refusal bina
           (record { u = u'; c = c'; y = y'; akkt = s.initial_inner_tolerance; y_plus = z'; delta_y = o'; f2 = o'; norm = o'; outer = 0; inner = 0 }))
           r b
 
-pub start_refuses : (s : AlmSettings) (plan xi : List Float) (m : ℕ) (b : LoopBoard) (r : LoopStep) (t : Alm) (c : Float) → m ≡ R.loop_refusal binary64 (settings_of s) (length plan) xi → (m ≡ 0 → ⊥)
+pub start_refuses : (s : AlmSettings) (plan xi : List Float) (m : ℕ) (b : LoopBoard) (r : LoopStep) (t : Alm) (c : Float) → m ≡ R.loop_refusal binary64 (settings_of s) plan xi → (m ≡ 0 → ⊥)
     → t ≡ first_alm s c 0 → r ≡ stepped (O.Refused m) P.Over t → Begins s plan xi r b
 unfolding R.start_loop R.or_refused O.said remains
 start_refuses s plan xi m b r t c e z tv w = by m e z (w ∙ ap (stepped (O.Refused m) P.Over) tv)
   where
-    by : (k : ℕ) → k ≡ R.loop_refusal binary64 (settings_of s) (length plan) xi → (k ≡ 0 → ⊥) → r ≡ stepped (O.Refused k) P.Over (first_alm s c 0) → Begins s plan xi r b
+    by : (k : ℕ) → k ≡ R.loop_refusal binary64 (settings_of s) plan xi → (k ≡ 0 → ⊥) → r ≡ stepped (O.Refused k) P.Over (first_alm s c 0) → Begins s plan xi r b
     by zero i h q = absurd (h refl)
     by (suc k) i h q =
         let run≡ : R.start_loop binary64 (settings_of s) plan xi ≡ stop (refused (suc k)) = ap (λ (n : ℕ). R.or_refused n (L.loop binary64 (settings_of s) plan (R.penalty_in xi) (R.multipliers_in xi))) (sym i) in

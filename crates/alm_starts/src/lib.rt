@@ -14,6 +14,7 @@ use alm_core::alm_cache::{AlmAnswered, AlmOutcome, AlmPhase, AlmRun, AlmSettings
 use alm_core::alm_steps::to;
 use alm_first::first;
 use alm_iterations::begins;
+use matrix_operations::is_finite_in;
 use panoc_core::outcome::Refusal;
 use start_numbers::{factor_right, fraction_right, limit_right, tolerance_right};
 use start_sizes::{mappings_right, sizes_right};
@@ -48,13 +49,16 @@ pub fn limits_right(set: AlmSettings) -> bool
     limit_right(10000, set.max_inner_iterations) && limit_right(1000, set.max_outer_iterations)
 }
 
-// Why a start is refused: 1 to 5 of the table; us is the length of the lent u.
+// Why a start at a lent u and xi is refused: 1, 19, 2, 3, 4 or 5 of the table.
 #[tactic(auto, unfolding(model::specs::Refusals::loop_refusal, model::specs::Refusals::unless, model::specs::Refusals::loop_numbers_right, alm_calls::specs::LoopCalls::tolerances_right, alm_calls::specs::LoopCalls::factors_right, alm_calls::specs::LoopCalls::limits_right))]
-pub fn start_refusal(set: AlmSettings, us: usize, xi: &[f64]) -> Option<Refusal>
-    ensures { number_of result ≡ R.loop_refusal binary64 (settings_of set) us xi.now }
+pub fn start_refusal(set: AlmSettings, u: &[f64], xi: &[f64]) -> Option<Refusal>
+    ensures { number_of result ≡ R.loop_refusal binary64 (settings_of set) u.now xi.now }
 {
-    if !sizes_right(set.n, us) {
+    if !sizes_right(set.n, u.len()) {
         return Some(Refusal::Sizes);
+    }
+    if !is_finite_in(u) {
+        return Some(Refusal::InitialGuess);
     }
     if !mappings_right(set.n1, set.n2, set.has_set_y, xi.len()) {
         return Some(Refusal::Mappings);
@@ -82,7 +86,7 @@ pub fn start_in_place(
     ensures { (b : LoopBoard) → Begins set plan.now xi.now (told result) (set_u u.new (set_y y.new (set_y_plus plus.new b))) }
 {
     let penalty = penalty_in(xi);
-    match start_refusal(set, plan.len(), xi) {
+    match start_refusal(set, plan, xi) {
         None => {
             vector_copies::take_into(plan, u);
             multipliers_in(xi, y);

@@ -119,6 +119,6 @@ inner_claim_in_place s u a b starts accepts h =
     inner_claim s u (gave a b) (record { settings = starts.settings; outcome = starts.outcome; process = starts.process }) accepts h
 
 -- A start that the table refuses: its number, and no run.
-pub inner_no_run : (s : Settings) (u : List Float) (a : Gave) → Starts s u a → (m : ℕ) → inner_refusal (settings_of s) (length u) ≡ suc m → (a.outcome ≡ Refused (suc m)) × Over inner_runs a.run
+pub inner_no_run : (s : Settings) (u : List Float) (a : Gave) → Starts s u a → (m : ℕ) → inner_refusal (settings_of s) u ≡ suc m → (a.outcome ≡ Refused (suc m)) × Over inner_runs a.run
 unfolding start_inner O.said
 inner_no_run s u a starts m e = no_run inner_runs lawful _ m (solve_of s u) a.outcome a.run starts.outcome starts.process e

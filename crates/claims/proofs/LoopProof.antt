@@ -144,6 +144,6 @@ loop_claim_in_place s u xi a b starts accepts h =
     loop_claim s u xi (gave a b) (record { settings = starts.settings; outcome = starts.outcome; process = starts.process }) accepts h
 
 -- A start that the table refuses: its number, and no run.
-pub loop_no_run : (s : AlmSettings) (u xi : List Float) (a : LoopGave) → Starts s u xi a → (m : ℕ) → loop_refusal binary64 (settings_of s) (length u) xi ≡ suc m → (a.outcome ≡ Refused (suc m)) × Over loop_runs a.run
+pub loop_no_run : (s : AlmSettings) (u xi : List Float) (a : LoopGave) → Starts s u xi a → (m : ℕ) → loop_refusal binary64 (settings_of s) u xi ≡ suc m → (a.outcome ≡ Refused (suc m)) × Over loop_runs a.run
 unfolding start_loop O.said
 loop_no_run s u xi a starts m e = no_run loop_runs lawful _ m (loop_of s u xi) a.outcome a.run starts.outcome starts.process e

@@ -34,6 +34,16 @@ pub starts_the_sizes_72 :
 unfolding all_psi Shows spoken
 starts_the_sizes_72 = refl
 
+-- ---- starts: 19, a u that is not finite, after 1 and before 2; psi and d_psi take any
+
+pub starts_19_12 :
+    Shows (start_d_psi binary64 (record { n = 1; n1 = 0; n2 = 0 }) (only (inf false)) [])
+    (asked (Asks.PsiQuestion.gradient (only (inf false))) ▷ vector (only null)
+    ∷ says (ended (handed (only null)))
+    ∷ [])
+unfolding all_psi Shows spoken
+starts_19_12 = refl
+
 -- ---- d_psi: y by c, also where c is 0
 
 pub d_psi_y_by_c_1 :

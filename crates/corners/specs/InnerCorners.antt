@@ -162,29 +162,74 @@ starts_the_sizes_21 = refl
 
 pub starts_the_sizes_22 :
     Shows (start_inner binary64 (record { n = 1; limit = 1; limited = false; tolerance = int 1; akkt = none }) (only nan))
-    (says (asked (Asks.Question.cost (only nan)))
+    (says (ended (refused 19))
     ∷ [])
 unfolding all_inner Shows spoken
 starts_the_sizes_22 = refl
 
--- ---- the shift: negative, zero and NaN get 1e-12; 1e-6 × s where that is more
+-- ---- starts: 19, a u that is not finite, after 1 and before 2; psi and d_psi take any
 
-pub the_shift_negative_1 :
-    Shows (start_inner binary64 (record { n = 6; limit = 1; limited = false; tolerance = 1 /2^ 1; akkt = none }) (neg (1 ·2^ 1) ∷ null ∷ 1 ·2^ 1 ∷ nan ∷ 4722366482869645 /2^ 72 ∷ 2361183241434823 /2^ 71 ∷ []))
-    (asked (Asks.Question.cost (neg (1 ·2^ 1) ∷ null ∷ 1 ·2^ 1 ∷ nan ∷ 4722366482869645 /2^ 72 ∷ 2361183241434823 /2^ 71 ∷ [])) ▷ number null
-    ∷ asked (Asks.Question.gradient (neg (1 ·2^ 1) ∷ null ∷ 1 ·2^ 1 ∷ nan ∷ 4722366482869645 /2^ 72 ∷ 2361183241434823 /2^ 71 ∷ [])) ▷ vector (null ∷ null ∷ null ∷ null ∷ null ∷ null ∷ [])
-    ∷ asked (Asks.Question.gradient (neg (1125899906842061 /2^ 49) ∷ 4951760157141521 /2^ 92 ∷ 4503604130970123 /2^ 51 ∷ nan ∷ 147574100163629 /2^ 67 ∷ 4722371205236129 /2^ 72 ∷ [])) ▷ vector (null ∷ null ∷ null ∷ null ∷ null ∷ null ∷ [])
-    ∷ asked (Asks.Question.project (neg (1125899906842061 /2^ 49) ∷ 4951760157141521 /2^ 92 ∷ 4503604130970123 /2^ 51 ∷ nan ∷ 147574100163629 /2^ 67 ∷ 4722371205236129 /2^ 72 ∷ [])) ▷ vector (null ∷ null ∷ null ∷ null ∷ null ∷ null ∷ [])
-    ∷ asked (Asks.Question.cost (null ∷ null ∷ null ∷ null ∷ null ∷ null ∷ [])) ▷ number null
-    ∷ asked (Asks.Question.direction true (neg (1125899906842061 /2^ 49) ∷ 4951760157141521 /2^ 92 ∷ 4503604130970123 /2^ 51 ∷ nan ∷ 147574100163629 /2^ 67 ∷ 4722371205236129 /2^ 72 ∷ []) (neg (1125899906842061 /2^ 49) ∷ 4951760157141521 /2^ 92 ∷ 4503604130970123 /2^ 51 ∷ nan ∷ 147574100163629 /2^ 67 ∷ 4722371205236129 /2^ 72 ∷ [])) ▷ vector (null ∷ null ∷ null ∷ null ∷ null ∷ null ∷ [])
-    ∷ asked (Asks.Question.cost (null ∷ null ∷ null ∷ null ∷ null ∷ null ∷ [])) ▷ number null
-    ∷ asked (Asks.Question.gradient (null ∷ null ∷ null ∷ null ∷ null ∷ null ∷ [])) ▷ vector (null ∷ null ∷ null ∷ null ∷ null ∷ null ∷ [])
-    ∷ asked (Asks.Question.project (null ∷ null ∷ null ∷ null ∷ null ∷ null ∷ [])) ▷ vector (null ∷ null ∷ null ∷ null ∷ null ∷ null ∷ [])
-    ∷ asked (Asks.Question.cost (null ∷ null ∷ null ∷ null ∷ null ∷ null ∷ [])) ▷ number null
-    ∷ says (ended (handed (record { plan = (null ∷ null ∷ null ∷ null ∷ null ∷ null ∷ []); status = not_converged_iterations; iterations = 1; norm = null; cost = null })))
+pub starts_19_1 :
+    Shows (start_inner binary64 (record { n = 1; limit = 1; limited = false; tolerance = int 1; akkt = none }) (only (inf false)))
+    (ended (refused 19) ▷ number null
+    ∷ says (turned 6)
     ∷ [])
 unfolding all_inner Shows spoken
-the_shift_negative_1 = refl
+starts_19_1 = refl
+
+pub starts_19_2 :
+    Shows (start_inner binary64 (record { n = 1; limit = 1; limited = false; tolerance = int 1; akkt = none }) (only (inf true)))
+    (says (ended (refused 19))
+    ∷ [])
+unfolding all_inner Shows spoken
+starts_19_2 = refl
+
+pub starts_19_3 :
+    Shows (start_inner binary64 (record { n = 3; limit = 1; limited = false; tolerance = int 1; akkt = none }) (null ∷ null ∷ nan ∷ []))
+    (says (ended (refused 19))
+    ∷ [])
+unfolding all_inner Shows spoken
+starts_19_3 = refl
+
+pub starts_19_4 :
+    Shows (start_inner binary64 (record { n = 2; limit = 1; limited = false; tolerance = int 1; akkt = none }) (only nan))
+    (says (ended (refused 1))
+    ∷ [])
+unfolding all_inner Shows spoken
+starts_19_4 = refl
+
+pub starts_19_5 :
+    Shows (start_inner binary64 (record { n = 1; limit = 0; limited = false; tolerance = null; akkt = none }) (only nan))
+    (says (ended (refused 19))
+    ∷ [])
+unfolding all_inner Shows spoken
+starts_19_5 = refl
+
+pub starts_19_6 :
+    Shows (start_inner binary64 (record { n = 1; limit = 1; limited = false; tolerance = int 1; akkt = none }) (only (9007199254740991 ·2^ 971)))
+    (says (asked (Asks.Question.cost (only (9007199254740991 ·2^ 971))))
+    ∷ [])
+unfolding all_inner Shows spoken
+starts_19_6 = refl
+
+-- ---- the shift: negative and zero get 1e-12; 1e-6 × s where that is more
+
+pub the_shift_negative_and_zero_get_1e_12_1 :
+    Shows (start_inner binary64 (record { n = 5; limit = 1; limited = false; tolerance = 1 /2^ 1; akkt = none }) (neg (1 ·2^ 1) ∷ null ∷ 1 ·2^ 1 ∷ 4722366482869645 /2^ 72 ∷ 2361183241434823 /2^ 71 ∷ []))
+    (asked (Asks.Question.cost (neg (1 ·2^ 1) ∷ null ∷ 1 ·2^ 1 ∷ 4722366482869645 /2^ 72 ∷ 2361183241434823 /2^ 71 ∷ [])) ▷ number null
+    ∷ asked (Asks.Question.gradient (neg (1 ·2^ 1) ∷ null ∷ 1 ·2^ 1 ∷ 4722366482869645 /2^ 72 ∷ 2361183241434823 /2^ 71 ∷ [])) ▷ vector (null ∷ null ∷ null ∷ null ∷ null ∷ [])
+    ∷ asked (Asks.Question.gradient (neg (1125899906842061 /2^ 49) ∷ 4951760157141521 /2^ 92 ∷ 4503604130970123 /2^ 51 ∷ 147574100163629 /2^ 67 ∷ 4722371205236129 /2^ 72 ∷ [])) ▷ vector (null ∷ null ∷ null ∷ null ∷ null ∷ [])
+    ∷ asked (Asks.Question.project (neg (1125899906842061 /2^ 49) ∷ 4951760157141521 /2^ 92 ∷ 4503604130970123 /2^ 51 ∷ 147574100163629 /2^ 67 ∷ 4722371205236129 /2^ 72 ∷ [])) ▷ vector (null ∷ null ∷ null ∷ null ∷ null ∷ [])
+    ∷ asked (Asks.Question.cost (null ∷ null ∷ null ∷ null ∷ null ∷ [])) ▷ number null
+    ∷ asked (Asks.Question.direction true (neg (1125899906842061 /2^ 49) ∷ 4951760157141521 /2^ 92 ∷ 4503604130970123 /2^ 51 ∷ 147574100163629 /2^ 67 ∷ 4722371205236129 /2^ 72 ∷ []) (neg (1125899906842061 /2^ 49) ∷ 4951760157141521 /2^ 92 ∷ 4503604130970123 /2^ 51 ∷ 147574100163629 /2^ 67 ∷ 4722371205236129 /2^ 72 ∷ [])) ▷ vector (null ∷ null ∷ null ∷ null ∷ null ∷ [])
+    ∷ asked (Asks.Question.cost (null ∷ null ∷ null ∷ null ∷ null ∷ [])) ▷ number null
+    ∷ asked (Asks.Question.gradient (null ∷ null ∷ null ∷ null ∷ null ∷ [])) ▷ vector (null ∷ null ∷ null ∷ null ∷ null ∷ [])
+    ∷ asked (Asks.Question.project (null ∷ null ∷ null ∷ null ∷ null ∷ [])) ▷ vector (null ∷ null ∷ null ∷ null ∷ null ∷ [])
+    ∷ asked (Asks.Question.cost (null ∷ null ∷ null ∷ null ∷ null ∷ [])) ▷ number null
+    ∷ says (ended (handed (record { plan = (null ∷ null ∷ null ∷ null ∷ null ∷ []); status = not_converged_iterations; iterations = 1; norm = null; cost = null })))
+    ∷ [])
+unfolding all_inner Shows spoken
+the_shift_negative_and_zero_get_1e_12_1 = refl
 
 -- ---- L: NaN gives the largest γ and no doubling
 

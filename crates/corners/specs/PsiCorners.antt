@@ -48,6 +48,16 @@ pub starts_the_sizes_69 :
 unfolding all_psi Shows spoken
 starts_the_sizes_69 = refl
 
+-- ---- starts: 19, a u that is not finite, after 1 and before 2; psi and d_psi take any
+
+pub starts_19_11 :
+    Shows (start_psi binary64 (record { n = 1; n1 = 0; n2 = 0 }) (only nan) [])
+    (asked (Asks.PsiQuestion.cost (only nan)) ▷ number null
+    ∷ says (ended (handed null))
+    ∷ [])
+unfolding all_psi Shows spoken
+starts_19_11 = refl
+
 -- ---- a start drops the open run
 
 pub a_start_drops_the_open_run_4 :

@@ -306,6 +306,37 @@ pub starts_the_sizes_64 :
 unfolding all_loop Shows spoken
 starts_the_sizes_64 = refl
 
+-- ---- starts: 19, a u that is not finite, after 1 and before 2; psi and d_psi take any
+
+pub starts_19_7 :
+    Shows (start_loop binary64 (record { n = 2; n1 = 1; n2 = 0; set_y = false; limit = 1; outer = 1; limited = false; tolerance = int 1; epsilon = int 1; delta = int 1; akkt = int 1; penalty_factor = 1 ·2^ 1; epsilon_factor = 1 /2^ 1; coefficient = 1 /2^ 1 }) (only nan) (int 1 ∷ null ∷ []))
+    (says (ended (refused 1))
+    ∷ [])
+unfolding all_loop Shows spoken
+starts_19_7 = refl
+
+pub starts_19_8 :
+    Shows (start_loop binary64 (record { n = 1; n1 = 1; n2 = 0; set_y = false; limit = 1; outer = 1; limited = false; tolerance = int 1; epsilon = int 1; delta = int 1; akkt = int 1; penalty_factor = 1 ·2^ 1; epsilon_factor = 1 /2^ 1; coefficient = 1 /2^ 1 }) (only (inf false)) (int 1 ∷ null ∷ []))
+    (ended (refused 19) ▷ number (int 1)
+    ∷ says (turned 6)
+    ∷ [])
+unfolding all_loop Shows spoken
+starts_19_8 = refl
+
+pub starts_19_9 :
+    Shows (start_loop binary64 (record { n = 3; n1 = 0; n2 = 0; set_y = false; limit = 1; outer = 1; limited = false; tolerance = int 1; epsilon = int 1; delta = int 1; akkt = int 1; penalty_factor = 1 ·2^ 1; epsilon_factor = 1 /2^ 1; coefficient = 1 /2^ 1 }) (null ∷ null ∷ inf true ∷ []) [])
+    (says (ended (refused 19))
+    ∷ [])
+unfolding all_loop Shows spoken
+starts_19_9 = refl
+
+pub starts_19_10 :
+    Shows (start_loop binary64 (record { n = 1; n1 = 33; n2 = 0; set_y = false; limit = 0; outer = 0; limited = false; tolerance = null; epsilon = int 1; delta = int 1; akkt = int 1; penalty_factor = 1 ·2^ 1; epsilon_factor = 1 /2^ 1; coefficient = 1 /2^ 1 }) (only nan) (nan ∷ null ∷ []))
+    (says (ended (refused 19))
+    ∷ [])
+unfolding all_loop Shows spoken
+starts_19_10 = refl
+
 -- ---- the previous gradient: each solve of the loop starts it at zeros (reading 1)
 
 pub the_previous_gradient_each_solve_of_the_loop_starts_it_at_zeros_reading_1_1 :

@@ -12,8 +12,9 @@ use Rattle.model.specs.Process.{Process, converged}
 use Rattle.model.specs.State.{Settings}
 use Rattle.model.specs.Loop.{LoopSettings}
 use Rattle.model.specs.Psi.{Sizes}
-use Rattle.model.specs.Refusals.{unless, sizes_right, xi_length, mappings_right, limit_right, tolerance_right, akkt_right, loop_numbers_right, inner_refusal, loop_refusal, penalty_in, multipliers_in, or_refused, start_inner, start_loop, start_psi, start_d_psi}
+use Rattle.model.specs.Refusals.{sizes_right, xi_length, mappings_right, limit_right, tolerance_right, akkt_right, loop_numbers_right, inner_refusal, loop_refusal, penalty_in, multipliers_in, or_refused, start_inner, start_loop, start_psi, start_d_psi}
 use Rattle.model.proofs.Facts.{and_left, and_right}
+use Rattle.model.proofs.Table.{inner_rows, loop_rows}
 use Rattle.model.specs.Bounds.{AtMost, Weights, weigh, solve_bound, worst_case}
 use Rattle.model.proofs.Bounds.{solve_at_most, solve_questions_at_most, psi_at_most, d_psi_at_most}
 use Rattle.model.proofs.LoopBounds.{loop_at_most}
@@ -25,16 +26,6 @@ use Rattle.model.proofs.EverySolve.{solve_traced, solve_ends, solve_counted}
 use Rattle.model.proofs.EveryLoop.{loop_traced, loop_ends, loop_counted, one_outer_never_converged}
 
 -- ---- what an accepted start says
-
-passed_first : (t : Bool) (k later : ℕ) → unless t (suc k) later ≡ 0 → t ≡ true
-unfolding unless
-passed_first true k later e = refl
-passed_first false k later e = absurd (omega arith)
-
-passed_later : (t : Bool) (k later : ℕ) → unless t (suc k) later ≡ 0 → later ≡ 0
-unfolding unless
-passed_later true k later e = e
-passed_later false k later e = absurd (omega arith)
 
 right_size : (n us : ℕ) → sizes_right n us ≡ true → us ≡ n
 unfolding sizes_right
@@ -95,13 +86,11 @@ module _ (f : Format) (s : Settings) (u : List Float) where
   unfolding start_inner
   start_inner_counted = along_or_refused counting _ _ _ _ (λ e. solve_counted f s u)
 
-  inner_size : inner_refusal s (length u) ≡ 0 → length u ≡ s.n
-  unfolding inner_refusal
-  inner_size e = right_size _ _ (passed_first _ 0 _ e)
+  inner_size : inner_refusal s u ≡ 0 → length u ≡ s.n
+  inner_size e = right_size _ _ ((inner_rows s u).none.0 e).0
 
-  inner_tolerance : inner_refusal s (length u) ≡ 0 → T (upward s.tolerance)
-  unfolding inner_refusal
-  inner_tolerance e = right_tolerance s.tolerance (and_left _ (akkt_right s.akkt) (passed_first _ 3 _ (passed_later _ 2 _ (passed_later _ 0 _ e))))
+  inner_tolerance : inner_refusal s u ≡ 0 → T (upward s.tolerance)
+  inner_tolerance e = right_tolerance s.tolerance (and_left _ (akkt_right s.akkt) ((inner_rows s u).none.0 e).1.1.1)
 
   pub start_inner_ends : Ends (SolvePlan s) [] (start_inner f s u)
   unfolding start_inner
@@ -126,24 +115,22 @@ module _ (f : Format) (s : LoopSettings) (u xi : List Float) where
   unfolding start_loop
   start_one_outer_never_converged n1 one = along_or_refused scoring _ _ _ _ (λ e. one_outer_never_converged f s u (penalty_in xi) (multipliers_in xi) n1 one)
 
-  module _ (e : loop_refusal f s (length u) xi ≡ 0) where
+  module _ (e : loop_refusal f s u xi ≡ 0) where
     loop_size : length u ≡ s.n
-    unfolding loop_refusal
-    loop_size = right_size _ _ (passed_first _ 0 _ e)
+    loop_size = right_size _ _ ((loop_rows f s u xi).none.0 e).0
 
     loop_multipliers : length (multipliers_in xi) ≡ s.n1
-    unfolding loop_refusal xi_length
+    unfolding xi_length
     loop_multipliers =
         right_multipliers s.n1 (eqb s.n1 0) (eqb s.n2 0) refl xi
-        (right_mappings s.n1 s.n2 s.set_y (length xi) (passed_first _ 1 _ (passed_later _ 0 _ e)))
+        (right_mappings s.n1 s.n2 s.set_y (length xi) ((loop_rows f s u xi).none.0 e).1.1.0)
 
     loop_some : 1 ≤ s.outer
-    unfolding loop_refusal
-    loop_some = right_limit 1000 s.outer (and_right (limit_right 10000 s.limit) _ (passed_first _ 2 _ (passed_later _ 1 _ (passed_later _ 0 _ e))))
+    loop_some = right_limit 1000 s.outer (and_right (limit_right 10000 s.limit) _ ((loop_rows f s u xi).none.0 e).1.1.1.0)
 
     loop_tolerance : T (upward s.tolerance)
-    unfolding loop_refusal loop_numbers_right
-    loop_tolerance = right_tolerance s.tolerance (and_left _ _ (passed_first _ 3 _ (passed_later _ 2 _ (passed_later _ 1 _ (passed_later _ 0 _ e)))))
+    unfolding loop_numbers_right
+    loop_tolerance = right_tolerance s.tolerance (and_left _ _ ((loop_rows f s u xi).none.0 e).1.1.1.1.0)
 
   pub start_loop_ends : Ends (LoopPlan f s) [] (start_loop f s u xi)
   unfolding start_loop

@@ -4,7 +4,7 @@ use Rattle.std.specs.Float.{Format, binary64, nan, inf, fin}
 use Rattle.std.specs.Float.Ieee.{round}
 use Rattle.ieee.specs.Numbers.{null}
 use Rattle.ieee.specs.Rows as Roots
-use Rattle.model.specs.Vectors.{shift}
+use Rattle.model.specs.Vectors.{all_finite, shift}
 use Rattle.model.specs.State.{Settings, no_best, keep}
 use Rattle.model.specs.Loop.{LoopSettings}
 use Rattle.model.specs.Psi.{Sizes}
@@ -35,13 +35,14 @@ pub record Bench : Type 0 where
   -- "K = 1 with n1 = 1 never Converged", whatever is answered
   pub never_converged : (f : Format) (s : LoopSettings) (u xi : List Float) → s.n1 ≡ 1 → s.outer ≡ 1 → Ends (λ scores h. h.status ≡ converged → ⊥) [] (start_loop f s u xi)
   -- "n = 64 accepted, 65 and 0 refused with 1": whatever else is started with; accepted where nothing else is wrong
-  pub inner_64 : (s : Settings) → s.n ≡ 64 → limit_right 10000 s.limit ≡ true → (tolerance_right s.tolerance && akkt_right s.akkt) ≡ true → inner_refusal s 64 ≡ 0
-  pub inner_65 : (s : Settings) (us : ℕ) → s.n ≡ 65 → inner_refusal s us ≡ 1
-  pub inner_0 : (s : Settings) (us : ℕ) → s.n ≡ 0 → inner_refusal s us ≡ 1
-  pub loop_64 : (f : Format) (s : LoopSettings) (xi : List Float) → s.n ≡ 64 → mappings_right s.n1 s.n2 s.set_y (length xi) ≡ true
-      → (limit_right 10000 s.limit && limit_right 1000 s.outer) ≡ true → loop_numbers_right f s ≡ true → xi_right xi ≡ true → loop_refusal f s 64 xi ≡ 0
-  pub loop_65 : (f : Format) (s : LoopSettings) (us : ℕ) (xi : List Float) → s.n ≡ 65 → loop_refusal f s us xi ≡ 1
-  pub loop_0 : (f : Format) (s : LoopSettings) (us : ℕ) (xi : List Float) → s.n ≡ 0 → loop_refusal f s us xi ≡ 1
+  pub inner_64 : (s : Settings) (u : List Float) → s.n ≡ 64 → length u ≡ 64 → all_finite u ≡ true → limit_right 10000 s.limit ≡ true
+      → (tolerance_right s.tolerance && akkt_right s.akkt) ≡ true → inner_refusal s u ≡ 0
+  pub inner_65 : (s : Settings) (u : List Float) → s.n ≡ 65 → inner_refusal s u ≡ 1
+  pub inner_0 : (s : Settings) (u : List Float) → s.n ≡ 0 → inner_refusal s u ≡ 1
+  pub loop_64 : (f : Format) (s : LoopSettings) (u xi : List Float) → s.n ≡ 64 → length u ≡ 64 → all_finite u ≡ true → mappings_right s.n1 s.n2 s.set_y (length xi) ≡ true
+      → (limit_right 10000 s.limit && limit_right 1000 s.outer) ≡ true → loop_numbers_right f s ≡ true → xi_right xi ≡ true → loop_refusal f s u xi ≡ 0
+  pub loop_65 : (f : Format) (s : LoopSettings) (u xi : List Float) → s.n ≡ 65 → loop_refusal f s u xi ≡ 1
+  pub loop_0 : (f : Format) (s : LoopSettings) (u xi : List Float) → s.n ≡ 0 → loop_refusal f s u xi ≡ 1
   pub psi_64 : (s : Sizes) (xis : ℕ) → s.n ≡ 64 → mappings_right s.n1 s.n2 false xis ≡ true → psi_refusal s 64 xis ≡ 0
   pub psi_65 : (s : Sizes) (us xis : ℕ) → s.n ≡ 65 → psi_refusal s us xis ≡ 1
   pub psi_0 : (s : Sizes) (us xis : ℕ) → s.n ≡ 0 → psi_refusal s us xis ≡ 1

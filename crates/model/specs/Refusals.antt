@@ -1,4 +1,4 @@
--- The table: document 01, "Refused, by place", 1 to 5 at a start and 6 to 9 at an answer, and what each leaves. 10 to 18 are ends of the processes. Definitions only.
+-- The table: document 01, "Refused, by place", 1 to 5 and 19 at a start and 6 to 9 at an answer, and what each leaves. 10 to 18 are ends of the processes. Definitions only.
 use Rattle.std.specs.Prelude.{ℕ, zero, suc, ◌+◌, Bool, true, false, ◌&&◌, not, cond, List, [], ◌∷◌, eqb, leb, ltb, Float, length}
 use Rattle.std.proofs.Math.Option.{Option, none, some}
 use Rattle.std.specs.Float.{Format}
@@ -13,7 +13,7 @@ use Rattle.model.specs.Inner.{solve}
 use Rattle.model.specs.Loop.{LoopSettings, xi_of, loop}
 use Rattle.model.specs.Psi.{Sizes, psi, d_psi}
 
--- ---- at a start: the number of the refusal, 0 for none. "Within a place the lower number comes first"
+-- ---- at a start: the number of the refusal, 0 for none. "Within a place the lower number comes first", but 19 "after 1 and before 2"
 
 -- k where the test failed, else what comes later
 unfoldable pub unless : Bool → ℕ → ℕ → ℕ
@@ -60,17 +60,19 @@ unfoldable pub xi_right : List Float → Bool
 xi_right [] = true
 xi_right (c ∷ y) = tolerance_right c && all_finite y
 
-unfoldable pub inner_refusal : Settings → ℕ → ℕ
-inner_refusal s us =
-    unless (sizes_right s.n us) 1 (unless (limit_right 10000 s.limit) 3 (unless (tolerance_right s.tolerance && akkt_right s.akkt) 4 0))
+-- 19: "u not finite, checked after 1 and before 2": all_finite of the lent u
+unfoldable pub inner_refusal : Settings → List Float → ℕ
+inner_refusal s u =
+    unless (sizes_right s.n (length u)) 1
+    (unless (all_finite u) 19 (unless (limit_right 10000 s.limit) 3 (unless (tolerance_right s.tolerance && akkt_right s.akkt) 4 0)))
 
-unfoldable pub loop_refusal : Format → LoopSettings → ℕ → List Float → ℕ
-loop_refusal f s us xi =
-    unless (sizes_right s.n us) 1
-    (unless (mappings_right s.n1 s.n2 s.set_y (length xi)) 2
-    (unless (limit_right 10000 s.limit && limit_right 1000 s.outer) 3 (unless (loop_numbers_right f s) 4 (unless (xi_right xi) 5 0))))
+unfoldable pub loop_refusal : Format → LoopSettings → List Float → List Float → ℕ
+loop_refusal f s u xi =
+    unless (sizes_right s.n (length u)) 1
+    (unless (all_finite u) 19 (unless (mappings_right s.n1 s.n2 s.set_y (length xi)) 2
+    (unless (limit_right 10000 s.limit && limit_right 1000 s.outer) 3 (unless (loop_numbers_right f s) 4 (unless (xi_right xi) 5 0)))))
 
--- psi and d_psi have no such settings, and "take any c and y"
+-- psi and d_psi have no such settings, "take any c and y" and "take any u"
 unfoldable pub psi_refusal : Sizes → ℕ → ℕ → ℕ
 psi_refusal s us xis = unless (sizes_right s.n us) 1 (unless (mappings_right s.n1 s.n2 false xis) 2 0)
 
@@ -91,10 +93,10 @@ or_refused zero p = p
 or_refused (suc k) p = stop (refused (suc k))
 
 unfoldable pub start_inner : Format → Settings → List Float → Solve
-start_inner f s u = or_refused (inner_refusal s (length u)) (solve f s u)
+start_inner f s u = or_refused (inner_refusal s u) (solve f s u)
 
 unfoldable pub start_loop : Format → LoopSettings → List Float → List Float → Loop
-start_loop f s u xi = or_refused (loop_refusal f s (length u) xi) (loop f s u (penalty_in xi) (multipliers_in xi))
+start_loop f s u xi = or_refused (loop_refusal f s u xi) (loop f s u (penalty_in xi) (multipliers_in xi))
 
 unfoldable pub start_psi : Format → Sizes → List Float → List Float → Psi
 start_psi f s u xi = or_refused (psi_refusal s (length u) (length xi)) (psi f s u (penalty_in xi) (multipliers_in xi))

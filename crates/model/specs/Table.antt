@@ -1,7 +1,8 @@
--- The table is total and in its order: a start or an answer gets the number k exactly where the condition of k fails and those of all lower numbers hold, and none, 0, exactly where all hold. Assumes nothing.
+-- The table is total and in its order: a start or an answer gets the number k exactly where the condition of k fails and those tested before it hold, and none, 0, exactly where all hold. Assumes nothing.
 use Rattle.std.specs.Prelude.{ℕ, ◌≡◌, ◌⊎◌, ◌↔◌, Bool, true, false, ◌&&◌, List, [], ◌∷◌, Float, length}
 use Rattle.std.proofs.Math.Option.{some}
 use Rattle.std.specs.Float.{Format}
+use Rattle.model.specs.Vectors.{all_finite}
 use Rattle.model.specs.Process.{Kind, Process, ask, score, begin, stop}
 use Rattle.model.specs.State.{Settings}
 use Rattle.model.specs.Loop.{LoopSettings}
@@ -12,23 +13,33 @@ use Rattle.model.specs.Tests.{Test, test}
 -- ---- an inner start
 
 -- its conditions, in their order
-abbrev pub inner_tests : Settings → ℕ → List Test
-inner_tests s us = test 1 (sizes_right s.n us) ∷ test 3 (limit_right 10000 s.limit) ∷ test 4 (tolerance_right s.tolerance && akkt_right s.akkt) ∷ []
+abbrev pub inner_tests : Settings → List Float → List Test
+inner_tests s u =
+    test 1 (sizes_right s.n (length u)) ∷ test 19 (all_finite u) ∷ test 3 (limit_right 10000 s.limit) ∷ test 4 (tolerance_right s.tolerance && akkt_right s.akkt) ∷ []
 
 -- which number says what
-pub record InnerRows (s : Settings) (us : ℕ) : Type 0 where
-  pub one : (inner_refusal s us ≡ 1) ↔ (sizes_right s.n us ≡ false)
-  pub three : (inner_refusal s us ≡ 3) ↔ ((sizes_right s.n us ≡ true) × (limit_right 10000 s.limit ≡ false))
-  pub four : (inner_refusal s us ≡ 4) ↔ ((sizes_right s.n us ≡ true) × ((limit_right 10000 s.limit ≡ true) × ((tolerance_right s.tolerance && akkt_right s.akkt) ≡ false)))
-  pub none : (inner_refusal s us ≡ 0) ↔ ((sizes_right s.n us ≡ true) × ((limit_right 10000 s.limit ≡ true) × ((tolerance_right s.tolerance && akkt_right s.akkt) ≡ true)))
-  pub total : (inner_refusal s us ≡ 1) ⊎ ((inner_refusal s us ≡ 3) ⊎ ((inner_refusal s us ≡ 4) ⊎ (inner_refusal s us ≡ 0)))
+pub record InnerRows (s : Settings) (u : List Float) : Type 0 where
+  pub one : (inner_refusal s u ≡ 1) ↔ (sizes_right s.n (length u) ≡ false)
+  pub nineteen : (inner_refusal s u ≡ 19) ↔ ((sizes_right s.n (length u) ≡ true) × (all_finite u ≡ false))
+  pub three : (inner_refusal s u ≡ 3) ↔ ((sizes_right s.n (length u) ≡ true) × ((all_finite u ≡ true) × (limit_right 10000 s.limit ≡ false)))
+  pub four :
+      (inner_refusal s u ≡ 4)
+      ↔ ((sizes_right s.n (length u) ≡ true)
+      × ((all_finite u ≡ true) × ((limit_right 10000 s.limit ≡ true) × ((tolerance_right s.tolerance && akkt_right s.akkt) ≡ false))))
+  pub none :
+      (inner_refusal s u ≡ 0)
+      ↔ ((sizes_right s.n (length u) ≡ true)
+      × ((all_finite u ≡ true) × ((limit_right 10000 s.limit ≡ true) × ((tolerance_right s.tolerance && akkt_right s.akkt) ≡ true))))
+  pub total :
+      (inner_refusal s u ≡ 1) ⊎ ((inner_refusal s u ≡ 19) ⊎ ((inner_refusal s u ≡ 3) ⊎ ((inner_refusal s u ≡ 4) ⊎ (inner_refusal s u ≡ 0))))
 
 -- ---- a start of the loop
 
 -- its conditions, in their order
-abbrev pub loop_tests : Format → LoopSettings → ℕ → List Float → List Test
-loop_tests f s us xi =
-    test 1 (sizes_right s.n us)
+abbrev pub loop_tests : Format → LoopSettings → List Float → List Float → List Test
+loop_tests f s u xi =
+    test 1 (sizes_right s.n (length u))
+    ∷ test 19 (all_finite u)
     ∷ test 2 (mappings_right s.n1 s.n2 s.set_y (length xi))
     ∷ test 3 (limit_right 10000 s.limit && limit_right 1000 s.outer)
     ∷ test 4 (loop_numbers_right f s)
@@ -36,29 +47,32 @@ loop_tests f s us xi =
     ∷ []
 
 -- which number says what
-pub record LoopRows (f : Format) (s : LoopSettings) (us : ℕ) (xi : List Float) : Type 0 where
-  pub one : (loop_refusal f s us xi ≡ 1) ↔ (sizes_right s.n us ≡ false)
-  pub two : (loop_refusal f s us xi ≡ 2) ↔ ((sizes_right s.n us ≡ true) × (mappings_right s.n1 s.n2 s.set_y (length xi) ≡ false))
+pub record LoopRows (f : Format) (s : LoopSettings) (u xi : List Float) : Type 0 where
+  pub one : (loop_refusal f s u xi ≡ 1) ↔ (sizes_right s.n (length u) ≡ false)
+  pub nineteen : (loop_refusal f s u xi ≡ 19) ↔ ((sizes_right s.n (length u) ≡ true) × (all_finite u ≡ false))
+  pub two : (loop_refusal f s u xi ≡ 2) ↔ ((sizes_right s.n (length u) ≡ true) × ((all_finite u ≡ true) × (mappings_right s.n1 s.n2 s.set_y (length xi) ≡ false)))
   pub three :
-      (loop_refusal f s us xi ≡ 3)
-      ↔ ((sizes_right s.n us ≡ true) × ((mappings_right s.n1 s.n2 s.set_y (length xi) ≡ true) × ((limit_right 10000 s.limit && limit_right 1000 s.outer) ≡ false)))
+      (loop_refusal f s u xi ≡ 3)
+      ↔ ((sizes_right s.n (length u) ≡ true) × ((all_finite u ≡ true) × ((mappings_right s.n1 s.n2 s.set_y (length xi) ≡ true) × ((limit_right 10000 s.limit && limit_right 1000 s.outer) ≡ false))))
   pub four :
-      (loop_refusal f s us xi ≡ 4)
-      ↔ ((sizes_right s.n us ≡ true)
-      × ((mappings_right s.n1 s.n2 s.set_y (length xi) ≡ true) × (((limit_right 10000 s.limit && limit_right 1000 s.outer) ≡ true) × (loop_numbers_right f s ≡ false))))
+      (loop_refusal f s u xi ≡ 4)
+      ↔ ((sizes_right s.n (length u) ≡ true)
+      × ((all_finite u ≡ true) × ((mappings_right s.n1 s.n2 s.set_y (length xi) ≡ true) × (((limit_right 10000 s.limit && limit_right 1000 s.outer) ≡ true) × (loop_numbers_right f s ≡ false)))))
   pub five :
-      (loop_refusal f s us xi ≡ 5)
-      ↔ ((sizes_right s.n us ≡ true)
-      × ((mappings_right s.n1 s.n2 s.set_y (length xi) ≡ true)
-      × (((limit_right 10000 s.limit && limit_right 1000 s.outer) ≡ true) × ((loop_numbers_right f s ≡ true) × (xi_right xi ≡ false)))))
+      (loop_refusal f s u xi ≡ 5)
+      ↔ ((sizes_right s.n (length u) ≡ true)
+      × ((all_finite u ≡ true)
+      × ((mappings_right s.n1 s.n2 s.set_y (length xi) ≡ true) × (((limit_right 10000 s.limit && limit_right 1000 s.outer) ≡ true) × ((loop_numbers_right f s ≡ true) × (xi_right xi ≡ false))))))
   pub none :
-      (loop_refusal f s us xi ≡ 0)
-      ↔ ((sizes_right s.n us ≡ true)
-      × ((mappings_right s.n1 s.n2 s.set_y (length xi) ≡ true)
-      × (((limit_right 10000 s.limit && limit_right 1000 s.outer) ≡ true) × ((loop_numbers_right f s ≡ true) × (xi_right xi ≡ true)))))
+      (loop_refusal f s u xi ≡ 0)
+      ↔ ((sizes_right s.n (length u) ≡ true)
+      × ((all_finite u ≡ true)
+      × ((mappings_right s.n1 s.n2 s.set_y (length xi) ≡ true) × (((limit_right 10000 s.limit && limit_right 1000 s.outer) ≡ true) × ((loop_numbers_right f s ≡ true) × (xi_right xi ≡ true))))))
   pub total :
-      (loop_refusal f s us xi ≡ 1)
-      ⊎ ((loop_refusal f s us xi ≡ 2) ⊎ ((loop_refusal f s us xi ≡ 3) ⊎ ((loop_refusal f s us xi ≡ 4) ⊎ ((loop_refusal f s us xi ≡ 5) ⊎ (loop_refusal f s us xi ≡ 0)))))
+      (loop_refusal f s u xi ≡ 1)
+      ⊎ ((loop_refusal f s u xi ≡ 19)
+      ⊎ ((loop_refusal f s u xi ≡ 2)
+      ⊎ ((loop_refusal f s u xi ≡ 3) ⊎ ((loop_refusal f s u xi ≡ 4) ⊎ ((loop_refusal f s u xi ≡ 5) ⊎ (loop_refusal f s u xi ≡ 0))))))
 
 -- ---- a start of psi or of d_psi
 

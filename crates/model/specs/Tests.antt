@@ -1,5 +1,5 @@
--- Tests in a row, with rising numbers: which number comes, and what that says of each test. Assumes nothing.
-use Rattle.std.specs.Prelude.{ℕ, ◌≡◌, ◌⊎◌, Bool, true, false, ◌&&◌, cond, List, [], ◌∷◌, eqb, ltb}
+-- Tests in a row, with distinct numbers in any order: which number comes, and what that says of each test. Assumes nothing.
+use Rattle.std.specs.Prelude.{ℕ, ◌≡◌, ◌⊎◌, Bool, true, false, ◌&&◌, not, cond, List, [], ◌∷◌, eqb}
 use Rattle.model.specs.Refusals.{unless}
 
 -- a test: its number, and whether it passed
@@ -11,10 +11,15 @@ abbrev pub first : List Test → ℕ
 first [] = 0
 first (test n b ∷ ts) = unless b n (first ts)
 
--- each number is above the one before
-abbrev pub rising : ℕ → List Test → Bool
-rising low [] = true
-rising low (test n b ∷ ts) = ltb low n && rising n ts
+-- no test has the number k
+abbrev pub absent : ℕ → List Test → Bool
+absent k [] = true
+absent k (test n b ∷ ts) = not (eqb n k) && absent k ts
+
+-- each has a number of its own, and none has 0
+abbrev pub distinct : List Test → Bool
+distinct [] = true
+distinct (test n b ∷ ts) = not (eqb n 0) && (absent n ts && distinct ts)
 
 -- that of k failed and those before it passed
 abbrev pub Fails : ℕ → List Test → Type 0

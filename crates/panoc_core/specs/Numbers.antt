@@ -24,6 +24,7 @@ refusal_some R.Plan e = omega (arith, e)
 refusal_some R.LastCost e = omega (arith, e)
 refusal_some R.OutOfTime e = omega (arith, e)
 refusal_some R.Infeasibility e = omega (arith, e)
+refusal_some R.InitialGuess e = omega (arith, e)
 
 pub number_some : (o : Std.Option Refusal) (r : Refusal) → o ≡ Std.Some r → number_of o ≡ 0 → ⊥
 number_some o r e z = refusal_some r (sym (ap number_of e) ∙ z)

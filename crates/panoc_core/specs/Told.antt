@@ -29,6 +29,7 @@ refusal_number R.Plan = 15
 refusal_number R.LastCost = 16
 refusal_number R.OutOfTime = 17
 refusal_number R.Infeasibility = 18
+refusal_number R.InitialGuess = 19
 
 -- of one that may be missing, and of a call that may be refused: 0 for none
 abbrev pub number_of : Std.Option Refusal → ℕ

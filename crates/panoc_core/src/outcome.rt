@@ -3,7 +3,7 @@ ghost use Rattle.std.specs.Prelude.{◌≡◌};
 ghost use Rattle.panoc_core.specs.Told.{refusal_number};
 
 // The table's refusals by what is wrong, at a start, at an answer, and within a run that then ends, with the table's numbers. 9 is a
-// failure, which has the host's code.
+// failure, which has the host's code. 19, a lent u that is not finite, is of a start.
 #[derive(Clone, Copy, PartialEq, Eq, Debug)]
 pub enum Refusal {
     Sizes = 1,
@@ -23,6 +23,7 @@ pub enum Refusal {
     LastCost = 16,
     OutOfTime = 17,
     Infeasibility = 18,
+    InitialGuess = 19,
 }
 
 impl Refusal {

@@ -1,9 +1,8 @@
 -- The tests of a start, and what a start gives. Assumes nothing.
 use Prim.Native.Nat.{ℕ, zero, suc, ◌≤◌}
 use mathlib.Core.Path.{◌≡◌, refl, sym, ap, ◌∙◌, subst}
-use mathlib.Core.Bool.{Bool, true, false, cond, ◌&&◌}
+use mathlib.Core.Bool.{◌&&◌}
 use mathlib.Core.List.{List}
-use native.Mathlib.Omega.{arith}
 use borrow.Author.Tests.{leb-true, eqb-true}
 use lib.Dec.{leb, eqb, ltb}
 use lib.Ieee.{Float, binary64}
@@ -11,38 +10,36 @@ use lib.ListN.{length}
 use Rattle.matrix_operations.specs.Firsts.{firsts}
 use Rattle.model.specs.Process.{refused, stop}
 use Rattle.model.specs.Inner as I
-use Rattle.model.specs.Refusals.{remains, inner_refusal, unless, sizes_right, limit_right, tolerance_right, akkt_right, start_inner, or_refused}
+use Rattle.model.specs.Refusals.{remains, inner_refusal, sizes_right, limit_right, start_inner, or_refused}
+use Rattle.model.proofs.Table.{inner_rows}
 use Rattle.panoc_core.specs.declared.panoc_cache.Phase.TheVariants as P
 use Rattle.panoc_core.specs.declared.panoc_cache.Question.TheVariants as Q
 use Rattle.panoc_core.specs.Told as O
 use Rattle.panoc_core.specs.declared.panoc_cache.Settings.{Settings}
 use Rattle.panoc_core.specs.declared.panoc_cache.Solve.{Solve}
-use Rattle.panoc_core.specs.Values.{akkt_of, said, settings_of, Step}
+use Rattle.panoc_core.specs.Values.{said, settings_of, Step}
 use Rattle.panoc_core.specs.Board.{Board, gave, stepped, set_u, Begins, begun}
 use Rattle.panoc_core.specs.Calls.{Starts}
-use Rattle.panoc_core.specs.Laws.{rest_over}
+use Rattle.panoc_core.specs.Laws.{and_left, and_right, rest_over}
 use Rattle.panoc_core.specs.Wanted.{begun_rest}
 
--- an accepted start has its sizes
-pub started : (s : Settings) (us : ℕ) → inner_refusal (settings_of s) us ≡ 0 → (s.n ≤ 64) × (us ≡ s.n) × (s.max_iter ≤ 10000)
-unfolding inner_refusal unless sizes_right limit_right
-started s us e = by (ltb 0 s.n) (leb s.n 64) refl (eqb us s.n) refl (ltb 0 s.max_iter) (leb s.max_iter 10000) refl (tolerance_right s.tolerance && akkt_right (akkt_of s.akkt_tolerance)) e
-  where
-    by : (a b : Bool) → leb s.n 64 ≡ b → (c : Bool) → eqb us s.n ≡ c → (d f : Bool) → leb s.max_iter 10000 ≡ f → (g : Bool) → ◌≡◌ {A = ℕ} (cond (a && (b && c)) (cond (d && f) (cond g 0 4) 3) 1) 0
-        → (s.n ≤ 64) × (us ≡ s.n) × (s.max_iter ≤ 10000)
-    by true true p true q true true r g w = (leb-true _ _ p, eqb-true _ _ q, leb-true _ _ r)
-    by true true p true q true false r g w = absurd (omega arith)
-    by true true p true q false f r g w = absurd (omega arith)
-    by true true p false q d f r g w = absurd (omega arith)
-    by true false p c q d f r g w = absurd (omega arith)
-    by false b p c q d f r g w = absurd (omega arith)
+-- an accepted start has its sizes: its tests passed
+pub started : (s : Settings) (u : List Float) → inner_refusal (settings_of s) u ≡ 0 → (s.n ≤ 64) × (length u ≡ s.n) × (s.max_iter ≤ 10000)
+unfolding sizes_right limit_right
+started s u e =
+    let passed = (inner_rows (settings_of s) u).none.0 e in
+    let places = and_right (ltb 0 s.n) (leb s.n 64 && eqb (length u) s.n) passed.0 in (
+      leb-true _ _ (and_left (leb s.n 64) (eqb (length u) s.n) places),
+      eqb-true _ _ (and_right (leb s.n 64) (eqb (length u) s.n) places),
+      leb-true _ _ (and_right (ltb 0 s.max_iter) (leb s.max_iter 10000) passed.1.1.0),
+    )
 
-module _ (s : Settings) (us : List Float) (m : ℕ) (e : m ≡ inner_refusal (settings_of s) (length us)) (b : Board) where
+module _ (s : Settings) (us : List Float) (m : ℕ) (e : m ≡ inner_refusal (settings_of s) us) (b : Board) where
   pub start_runs : m ≡ 0 → firsts (length us) b.u ≡ us → Begins s us (record { outcome = O.Asked Q.Cost; state = begun s }) b
   unfolding start_inner or_refused O.said I.solve
   start_runs z f =
-      let e₀ : inner_refusal (settings_of s) (length us) ≡ 0 = sym e ∙ z in
-      let ok = started s (length us) e₀ in
+      let e₀ : inner_refusal (settings_of s) us ≡ 0 = sym e ∙ z in
+      let ok = started s us e₀ in
       let u≡ : firsts s.n b.u ≡ us = rw (← ok.1) f in
       let run≡ : start_inner binary64 (settings_of s) us ≡ I.solve binary64 (settings_of s) us = ap (λ (k : ℕ). or_refused k (I.solve binary64 (settings_of s) us)) e₀ in
       record { settings = refl; outcome = sym (ap said run≡); process = begun_rest s b us ok.0 ok.2 u≡ ∙ sym (ap remains run≡) }
@@ -51,7 +48,7 @@ module _ (s : Settings) (us : List Float) (m : ℕ) (e : m ≡ inner_refusal (se
   unfolding start_inner or_refused O.said remains
   start_refuses r z w = subst (λ (q : Step). Begins s us q b) (sym w) (by m e z)
     where
-      by : (k : ℕ) → k ≡ inner_refusal (settings_of s) (length us) → (k ≡ 0 → ⊥) → Begins s us (stepped (O.Refused k) P.Over (begun s)) b
+      by : (k : ℕ) → k ≡ inner_refusal (settings_of s) us → (k ≡ 0 → ⊥) → Begins s us (stepped (O.Refused k) P.Over (begun s)) b
       by zero i h = absurd (h refl)
       by (suc k) i h =
           let run≡ : start_inner binary64 (settings_of s) us ≡ stop (refused (suc k)) = ap (λ (n : ℕ). or_refused n (I.solve binary64 (settings_of s) us)) (sym i) in

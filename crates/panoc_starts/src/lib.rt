@@ -8,6 +8,7 @@ ghost use Rattle.panoc_core.specs.Told.{number_of, told, answered};
 ghost use Rattle.panoc_core.specs.Board.{Board, set_u, Begins, begun};
 ghost use Rattle.panoc_core.specs.Calls.{Starts};
 
+use matrix_operations::is_finite_in;
 use panoc_core::outcome::Refusal;
 use panoc_core::panoc_cache::{
     Answered, ExitStatus, InnerIterations, Numbers, Outcome, Phase, Question, Run, Settings, Solve,
@@ -16,13 +17,16 @@ use panoc_core::panoc_cache::{
 use start_numbers::{limit_right, tolerance_right};
 use start_sizes::sizes_right;
 
-// Why a start is refused: 1, 3 or 4 of the table; us is the length of the lent u.
+// Why a start at a lent u is refused: 1, 19, 3 or 4 of the table.
 #[tactic(auto, unfolding(model::specs::Refusals::inner_refusal, model::specs::Refusals::unless))]
-pub fn start_refusal(set: Settings, us: usize) -> Option<Refusal>
-    ensures { number_of result ≡ R.inner_refusal (settings_of set) us }
+pub fn start_refusal(set: Settings, u: &[f64]) -> Option<Refusal>
+    ensures { number_of result ≡ R.inner_refusal (settings_of set) u.now }
 {
-    if !sizes_right(set.n, us) {
+    if !sizes_right(set.n, u.len()) {
         return Some(Refusal::Sizes);
+    }
+    if !is_finite_in(u) {
+        return Some(Refusal::InitialGuess);
     }
     if !limit_right(10000, set.max_iter) {
         return Some(Refusal::Limits);
@@ -75,7 +79,7 @@ pub fn start_in_place(set: Settings, first: &[f64], u: &mut [f64; 64]) -> Steppe
     ensures { (b : Board) → Begins set first.now (told result) (set_u u.new b) }
 {
     let solve = begin(set);
-    match start_refusal(set, first.len()) {
+    match start_refusal(set, first) {
         None => {
             vector_copies::take_into(first, u);
             Stepped {

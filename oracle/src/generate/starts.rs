@@ -23,19 +23,20 @@ pub fn accepted(random: &mut Random, call: Call, length: Length) -> Start {
     }
 }
 
-/// A start that the table refuses: an accepted one with a thing wrong, and at times another of a higher number.
+/// A start that the table refuses: an accepted one with a thing wrong, and at times another that is tested later.
 pub fn refused(random: &mut Random, call: Call) -> Start {
     let numbers: &[u8] = match call {
-        Call::Inner => &[1, 3, 4],
-        Call::Loop => &[1, 2, 3, 4, 5],
+        Call::Inner => &[1, 19, 3, 4],
+        Call::Loop => &[1, 19, 2, 3, 4, 5],
         Call::Psi | Call::DPsi => &[1, 2],
     };
-    let number = random.pick(numbers);
+    let place = random.below(numbers.len());
+    let number = numbers[place];
     loop {
         let mut start = accepted(random, call, Length::Short);
         if random.chance(300) {
-            let higher = random.pick(numbers).max(number);
-            spoil(random, &mut start, higher);
+            let later = random.pick(&numbers[place..]);
+            spoil(random, &mut start, later);
         }
         spoil(random, &mut start, number);
         if table::start(&start) == Some(number) {
@@ -307,6 +308,12 @@ fn spoil(random: &mut Random, start: &mut Start, number: u8) {
                 start.penalty_factor = random.pick(&[below_1, 0.0, -2.0, f64::NAN, f64::INFINITY]);
             }
         },
+        19 => {
+            if !start.u.is_empty() {
+                let i = random.below(start.u.len());
+                start.u[i] = values::not_finite(random);
+            }
+        }
         _ => {
             if !start.xi.is_empty() {
                 let i = random.below(start.xi.len());

@@ -3,6 +3,7 @@
 use super::words::{self, Line};
 use super::{questions, refusals, Call, Given, Run, Then, Wants};
 use crate::floats;
+use crate::sets::Table;
 
 /// What the program keeps between lines.
 #[derive(Default)]
@@ -13,13 +14,17 @@ pub struct Program {
     asked: (usize, usize),
     u: Vec<f64>,
     xi: Vec<f64>,
+    table: Table,
 }
 
 impl Program {
     /// Does what a line says, and appends the line that it prints.
     pub fn line(&mut self, line: &[u8], out: &mut Vec<u8>) {
         match words::read(line) {
-            None => out.extend_from_slice(b"bad"),
+            None => {
+                let printed = self.table.line(line);
+                out.extend_from_slice(printed.as_deref().unwrap_or("bad").as_bytes());
+            }
             Some(Line::Start(set)) => {
                 self.u = set.u.clone();
                 self.xi = set.xi.clone();

@@ -1,4 +1,4 @@
-//! The rows 1 to 5 of document 01's table.
+//! The rows 1 to 5 and 19 of document 01's table.
 
 use super::vectors::is_finite;
 use super::{Call, Start};
@@ -9,6 +9,9 @@ pub fn of_start(set: &Start) -> Option<u8> {
     let looped = set.call == Call::Loop;
     if !(1..=64).contains(&set.n) || set.u.len() as u64 != set.n {
         return Some(1);
+    }
+    if (alone || looped) && !set.u.iter().all(|&x| is_finite(x)) {
+        return Some(19);
     }
     if !alone {
         let places = if set.n1 == 0 && set.n2 == 0 {

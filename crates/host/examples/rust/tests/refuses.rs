@@ -44,6 +44,23 @@ fn a_start_of_another_length() {
 }
 
 #[test]
+fn a_start_that_is_not_finite() {
+    for x in [f64::NAN, f64::INFINITY, f64::NEG_INFINITY] {
+        for i in 0..3 {
+            let mut u = [f64::MAX; 3];
+            u[i] = x;
+            assert_eq!(start_refusal(settings(), &u), 19);
+            let none = Settings {
+                max_iter: 0,
+                ..settings()
+            };
+            assert_eq!(start_refusal(none, &u), 19);
+        }
+        assert_eq!(start_refusal(settings(), &[x; 4]), 1);
+    }
+}
+
+#[test]
 fn settings_outside() {
     let u = [0.0; 3];
     for max_iter in [0, 10_001, usize::MAX] {
