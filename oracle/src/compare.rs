@@ -34,6 +34,7 @@ pub fn compare(
         let mut tape = Tape::default();
         while next < count && tape.script.len() + tape.expected.len() < BATCH_BYTES {
             (tape, tally) = generate::run(seed, next, mix, tape, tally);
+            (tape, tally) = generate::sets::table(seed, next, tape, tally);
             next += 1;
         }
         if let Some(batch) = at_work.take() {
@@ -117,7 +118,7 @@ pub fn difference(script: &[u8], expected: &[u8], got: &[u8]) -> Difference {
 }
 
 fn is_start(line: &str) -> bool {
-    ["inner ", "loop ", "psi ", "d_psi "]
+    ["inner ", "loop ", "psi ", "d_psi ", "sets"]
         .iter()
         .any(|word| line.starts_with(word))
 }

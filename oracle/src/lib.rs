@@ -10,6 +10,7 @@ pub mod record;
 pub mod reference;
 pub mod replay;
 pub mod session;
+pub mod sets;
 pub mod start;
 pub mod table;
 pub mod tally;

@@ -82,6 +82,7 @@ fn runs(seed: u64, first: u64, count: u64, mix: &Mix) -> (Tape, Tally) {
     let mut both = (Tape::default(), Tally::default());
     for index in first..first + count {
         both = generate::run(seed, index, mix, both.0, both.1);
+        both = generate::sets::table(seed, index, both.0, both.1);
     }
     both
 }
@@ -98,12 +99,13 @@ fn report(tally: &Tally, difference: Option<String>, folder: &Path) -> ExitCode 
         Some(_) => "generated, and a difference",
     };
     println!(
-        "{verdict}: inner {}, loop {}, psi {}, d_psi {}; on an edge {}",
+        "{verdict}: inner {}, loop {}, psi {}, d_psi {}; on an edge {}; tables of sets {}",
         tally.get("run inner"),
         tally.get("run loop"),
         tally.get("run psi"),
         tally.get("run d_psi"),
         tally.get("runs on an edge"),
+        tally.get("tables of sets"),
     );
     match difference {
         None => ExitCode::SUCCESS,

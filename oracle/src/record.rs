@@ -14,13 +14,18 @@ const CANDIDATES: u64 = 60_000;
 /// A generated run of the list is no larger, and each thing that can happen is shown this often.
 const LARGEST: usize = 3_500;
 const EXAMPLES: usize = 14;
+/// So many tables of sets come behind the runs.
+const TABLES: u64 = 100;
 
 /// The whole list, from the text of the corners.
 pub fn record(corners: &str) -> (Tape, Tally) {
     let lines = replay::corners(corners);
     let (tape, tally) = replay::replay(lines, Tape::default(), Tally::default());
     let (tape, tally) = spend_all(tape, tally);
-    choose(tape, tally)
+    let (tape, tally) = choose(tape, tally);
+    (0..TABLES).fold((tape, tally), |(tape, tally), index| {
+        generate::sets::table(SEED, index, tape, tally)
+    })
 }
 
 /// Runs whose every test fails: all questions of M = 1, of the loop with K = M = 1, and of K = M = 2.

@@ -2,10 +2,13 @@
 
 use std::collections::BTreeMap;
 
+/// The table's largest number.
+const LAST: usize = 19;
+
 #[derive(Default)]
 pub struct Tally {
     counts: BTreeMap<&'static str, u64>,
-    refusals: [u64; 19],
+    refusals: [u64; LAST + 1],
 }
 
 impl Tally {
@@ -28,7 +31,7 @@ impl Tally {
     /// The names of all that was counted.
     pub fn names(&self) -> Vec<String> {
         let counted = self.counts.keys().map(|name| name.to_string());
-        let refused = (1..19).filter(|&number| self.refusals[number] > 0);
+        let refused = (1..=LAST).filter(|&number| self.refusals[number] > 0);
         counted
             .chain(refused.map(|number| format!("refused {number}")))
             .collect()

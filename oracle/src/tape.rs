@@ -2,6 +2,7 @@
 
 use crate::floats;
 use crate::reference::words::Line;
+use crate::sets::Table;
 use crate::start::{Call, Start};
 
 #[derive(Default)]
@@ -13,6 +14,8 @@ pub struct Tape {
     pub xi: Vec<f64>,
     /// The lengths of u (for d_psi the result) and xi that the run was started with.
     lengths: (usize, usize),
+    /// The ready-made sets, which no run touches.
+    table: Table,
 }
 
 impl Tape {
@@ -78,11 +81,12 @@ impl Tape {
         self.print(&format!("refused {number}"));
     }
 
-    /// A line of another form.
+    /// A line that is none of a run: one of sets, or of another form.
     pub fn bad(&mut self, line: &[u8]) {
         self.script.extend_from_slice(line);
         self.script.push(b'\n');
-        self.print("bad");
+        let printed = self.table.line(line);
+        self.print(printed.as_deref().unwrap_or("bad"));
     }
 
     /// `lend`: places past the old end hold 0.

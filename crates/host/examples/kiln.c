@@ -19,10 +19,20 @@ static uint64_t bits_of(double x) {
   return b;
 }
 
-/* Answers the questions until the run is over; asked counts them by number. */
+/* The set of the plans, one box: each power lies between off and full. A box's lower bounds come before its upper ones. */
+static const pkr_set SETS[] = {{PKR_BOX, N, N, N}};
+static double bounds[2 * N];
+
+static void fill_bounds(void) {
+  for (size_t i = 0; i < N; i++) bounds[i] = 0, bounds[N + i] = 1;
+}
+
+/* Answers the questions until the run is over; asked counts them by number. A table that is refused is answered as
+ * a failure, with its number. */
 static uint32_t answer_all(pkr_inner *run, uint32_t got, clock_t until, double *plan, unsigned *asked) {
   static kiln_memory memory;
   double v[N];
+  uint32_t refused;
   while (got == PKR_ASKED) {
     const uint32_t question = pkr_inner_told(run);
     const double *at = pkr_inner_point(run);
@@ -36,8 +46,9 @@ static uint32_t answer_all(pkr_inner *run, uint32_t got, clock_t until, double *
         got = pkr_inner_vector(run, v, N, plan, N);
         break;
       case PKR_PROJECT:
-        kiln_project(at, v);
-        got = pkr_inner_vector(run, v, N, plan, N);
+        memcpy(v, at, sizeof v);
+        refused = pkr_project(SETS, 1, bounds, 2 * N, v, N);
+        got = refused ? pkr_inner_failure(run, refused, plan, N) : pkr_inner_vector(run, v, N, plan, N);
         break;
       case PKR_DIRECTION:
       case PKR_DIRECTION_FORGET:
@@ -61,6 +72,7 @@ int main(int words, char **word) {
   unsigned asked[PKR_TIME + 1] = {0};
   double plan[N], t[N];
   for (size_t i = 0; i < N; i++) plan[i] = 0.5;
+  fill_bounds();
 
   const uint32_t got = answer_all(&run, pkr_inner_start(&run, &settings, plan, N), until, plan, asked);
   if (got != PKR_ENDED) {

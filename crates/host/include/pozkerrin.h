@@ -44,7 +44,8 @@ enum { PKR_NUMBER = 0, PKR_VECTOR = 1, PKR_YES = 2, PKR_NO = 3, PKR_FAILURE = 4 
 /* Ends. */
 enum { PKR_CONVERGED = 0, PKR_ITERATIONS = 1, PKR_OUT_OF_TIME = 2 };
 
-/* Refusals: 1 to 5 at a start (no run), 6 to 8 at an answer (the run is unchanged) and at points, 10 to 18 as ends. */
+/* Refusals: 1 to 5 and 19 at a start (no run; 19 comes after 1 and before 2), 6 to 8 at an answer (the run is unchanged) and at points,
+ * 10 to 18 as ends, 20 and 21 at a projection on ready-made sets (the vector is unchanged). */
 enum {
   PKR_BAD_N = 1,             /* n outside its sizes, or u of another length */
   PKR_BAD_MAPPINGS = 2,      /* n1 or n2 above 32, xi of another length, Y set with n1 = 0 */
@@ -62,7 +63,10 @@ enum {
   PKR_FINAL_NOT_FINITE = 15,     /* final u not finite */
   PKR_BEST_NOT_FINITE = 16,      /* cost at the best half step not finite */
   PKR_NO_TIME = 17,              /* a no from the first TIME of a loop */
-  PKR_INFEASIBILITY_NAN = 18     /* the norm of y_plus - y or of F2 is NaN */
+  PKR_INFEASIBILITY_NAN = 18,    /* the norm of y_plus - y or of F2 is NaN */
+  PKR_BAD_U = 19,            /* u not finite; psi and d_psi take any u */
+  PKR_BAD_SETS = 20,         /* over 8 sets, stretches that do not exactly fill the vector, bounds or a centre not as long as their stretch */
+  PKR_BAD_BOUND = 21         /* a bound, centre or radius not finite, lower above upper, or radius below 0 */
 };
 
 typedef double pkr_vector[64];
@@ -129,7 +133,19 @@ typedef struct {
   double penalty_update_factor, epsilon_update_factor, sufficient_decrease_coeff;
 } pkr_loop_settings;
 
+/* A set for the next `stretch` places of a vector: a box or a ball. Its numbers lie in an array that is lent beside the sets, those of each set
+ * behind those of the set before. A box's are its lower bounds, `first` of them, and then its upper ones, `second`; a ball's are its radius and
+ * then its centre, `first` places, and `second` counts nothing. Any kind but PKR_BOX is a ball. */
+enum { PKR_SETS = 8 }; /* the most sets of a table */
+enum { PKR_BOX = 0, PKR_BALL = 1 };
+typedef struct {
+  uint32_t kind;
+  size_t stretch, first, second;
+} pkr_set;
+
 /* ---- The exported calls. */
+uint32_t pozkerrin_project(const pkr_set *sets, size_t count, const double *numbers, size_t have, double *v, size_t vs);
+
 uint32_t pozkerrin_inner_start(pkr_w6 *w, pkr_k6 *k, pkr_f13 *f, size_t n, size_t max_iter, uint32_t limited, double tolerance,
     uint32_t has_akkt, double akkt_tolerance, const double *at, size_t ats, pkr_vector *u);
 uint32_t pozkerrin_inner_answer(pkr_w6 *w, pkr_k6 *k, pkr_f13 *f, uint32_t kind, double x, uint32_t code, const double *v, size_t vs,
@@ -183,9 +199,28 @@ uint32_t pozkerrin_d_psi_answer(pkr_w2 *w, pkr_k3 *k, pkr_f1 *f, uint32_t kind, 
 uint32_t pozkerrin_d_psi_points(const pkr_w2 *w, const pkr_k3 *k, const pkr_f1 *f, double *first, size_t firsts, double *second,
     size_t seconds, const pkr_vector *u, const pkr_vector *t, const pkr_vector *d);
 
+/* ---- Ready-made sets, with which a host can answer PROJECT. */
+
+/* A box and a ball with bounds or a centre as long as their stretch. */
+static inline pkr_set pkr_box(size_t stretch) {
+  const pkr_set s = {PKR_BOX, stretch, stretch, stretch};
+  return s;
+}
+
+static inline pkr_set pkr_ball(size_t stretch) {
+  const pkr_set s = {PKR_BALL, stretch, stretch, 0};
+  return s;
+}
+
+/* Projects v, of vs places, on a table of sets, whose numbers are the first of `have`: 0, or 20 or 21. A box puts its bound where an entry lies
+ * beyond it, and keeps every other entry, NaN too. A ball keeps its stretch unless that is further from the centre than the radius. */
+static inline uint32_t pkr_project(const pkr_set *sets, size_t count, const double *numbers, size_t have, double *v, size_t vs) {
+  return pozkerrin_project(sets, count, numbers, have, v, vs);
+}
+
 /* ---- The inner solve. */
 
-/* Begins a run at u, of us places: asked COST, or refused 1, 3 or 4. */
+/* Begins a run at u, of us places: asked COST, or refused 1, 19, 3 or 4. */
 static inline uint32_t pkr_inner_start(pkr_inner *r, const pkr_inner_settings *s, const double *u, size_t us) {
   return pozkerrin_inner_start(&r->w, &r->k, &r->f, s->n, s->max_iter, s->limited, s->tolerance, s->has_akkt, s->akkt_tolerance,
       u, us, &r->u);
@@ -259,7 +294,7 @@ static inline double pkr_inner_cost(const pkr_inner *r) { return r->f[12]; }
 /* The places of xi: none where n1 = n2 = 0, else the penalty's and n1. */
 static inline size_t pkr_xi_places(size_t n1, size_t n2) { return n1 == 0 && n2 == 0 ? 0 : n1 + 1; }
 
-/* Begins a run at u and xi: asked a first question, or refused 1 to 5. */
+/* Begins a run at u and xi: asked a first question, or refused 1, 19 or 2 to 5. */
 static inline uint32_t pkr_loop_start(pkr_loop *r, const pkr_loop_settings *s, const double *u, size_t us, const double *xi, size_t xis) {
   return pozkerrin_loop_start(&r->w, &r->k, &r->f, &r->lw, &r->lk, &r->lf, s->n, s->n1, s->n2, s->has_set_y, s->max_inner_iterations,
       s->max_outer_iterations, s->limited, s->tolerance, s->epsilon_tolerance, s->delta_tolerance, s->initial_inner_tolerance,

@@ -6,15 +6,19 @@ mod reading;
 
 use answers::answered;
 use line_starts::command::{Command, Said};
-use reading::{heard, next};
+use reading::{heard, heard_of_sets, next};
 use std::io;
 use std::io::{BufReader, BufWriter, Write};
 use transcript_lines::output::{Line, alone};
+use transcript_sets::Table;
 use transcript_starts::{d_psi, inner, opened, outer, psi};
 use transcript_state::Play;
 
 // What a line says is done; gives what is printed of it. Each command has its own data, and so an arm of its own.
-fn turn(play: &mut Play, line: &[u8]) -> Line {
+fn turn(play: &mut Play, table: &mut Table, line: &[u8]) -> Line {
+    if let Some(said) = heard_of_sets(line) {
+        return table.turn(&said);
+    }
     let Some(said) = heard(line) else {
         return alone(b"bad");
     };
@@ -43,6 +47,7 @@ fn main(rt: HostRuntime) -> io::Result<()> {
     let mut out = BufWriter::new(rt.alloc(), io::writer(&rt))?;
     let mut line = Vec::new(rt.alloc());
     let mut play = opened();
+    let mut table = Table::new();
     for _ in 0..u64::MAX {
         if !input.buffer().contains(&b'\n') {
             out.flush()?;
@@ -50,7 +55,7 @@ fn main(rt: HostRuntime) -> io::Result<()> {
         if !next(&mut input, &mut line)? {
             break;
         }
-        let told = turn(&mut play, line.as_slice());
+        let told = turn(&mut play, &mut table, line.as_slice());
         out.write_all(told.as_slice())?;
         out.write_all(b"\n")?;
     }

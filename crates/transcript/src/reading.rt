@@ -1,4 +1,5 @@
 // The next line of the input, and what a line says.
+use line_sets::SetLine;
 use line_starts::command::Said;
 use script::said;
 use std::io;
@@ -28,5 +29,14 @@ pub fn heard(line: &[u8]) -> Option<Said<128, 128>> {
         None
     } else {
         said::<128, 128>(line)
+    }
+}
+
+// What a line says of sets, in the same way.
+pub fn heard_of_sets(line: &[u8]) -> Option<SetLine> {
+    if line.len() > LONGEST {
+        None
+    } else {
+        line_sets::said(line)
     }
 }

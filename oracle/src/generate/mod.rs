@@ -3,6 +3,7 @@
 pub mod edges;
 pub mod model;
 pub mod noise;
+pub mod sets;
 pub mod starts;
 pub mod values;
 

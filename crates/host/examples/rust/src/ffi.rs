@@ -1,4 +1,4 @@
-//! The part of `pozkerrin.h` that the wrapper calls. Only `inner.rs` uses it.
+//! The part of `pozkerrin.h` that the wrapper calls. Only `inner.rs` and `sets.rs` use it.
 
 pub type Vector = [f64; 64];
 
@@ -20,7 +20,26 @@ pub struct Inner {
     pub best: Vector,
 }
 
+/// `pkr_set`.
+#[repr(C)]
+#[derive(Debug, Clone, Copy)]
+pub struct Set {
+    pub kind: u32,
+    pub stretch: usize,
+    pub first: usize,
+    pub second: usize,
+}
+
 extern "C" {
+    pub fn pozkerrin_project(
+        sets: *const Set,
+        count: usize,
+        numbers: *const f64,
+        have: usize,
+        v: *mut f64,
+        vs: usize,
+    ) -> u32;
+
     pub fn pozkerrin_inner_start(
         w: *mut [u32; 6],
         k: *mut [usize; 6],

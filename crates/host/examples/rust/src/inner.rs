@@ -1,4 +1,4 @@
-//! The inner solve. All `unsafe` code of the wrapper is here.
+//! The inner solve. All `unsafe` code of the wrapper is here and in `sets.rs`.
 
 use crate::ffi;
 use crate::words::{Answer, End, Outcome, Question, Refusal, Status};
@@ -36,7 +36,7 @@ pub struct Inner {
 }
 
 /// The engine wants a pointer to one place also where there is none.
-fn lent(v: &[f64]) -> (*const f64, usize) {
+pub(crate) fn lent(v: &[f64]) -> (*const f64, usize) {
     static NONE: f64 = 0.0;
     if v.is_empty() {
         (&NONE, 0)
@@ -45,7 +45,7 @@ fn lent(v: &[f64]) -> (*const f64, usize) {
     }
 }
 
-fn lent_mut<'a>(v: &'a mut [f64], none: &'a mut f64) -> (*mut f64, usize) {
+pub(crate) fn lent_mut<'a>(v: &'a mut [f64], none: &'a mut f64) -> (*mut f64, usize) {
     if v.is_empty() {
         (none, 0)
     } else {
@@ -54,7 +54,7 @@ fn lent_mut<'a>(v: &'a mut [f64], none: &'a mut f64) -> (*mut f64, usize) {
 }
 
 impl Inner {
-    /// Begins a solve at `u`: a run and its first question, or a refusal by 1, 3 or 4.
+    /// Begins a solve at `u`: a run and its first question, or a refusal by 1, 19 (`u` is not finite), 3 or 4.
     pub fn start(settings: &Settings, u: &[f64]) -> Result<(Inner, Question), Refusal> {
         let zeros = [0.0; 64];
         let mut raw = ffi::Inner {

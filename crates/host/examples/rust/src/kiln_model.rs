@@ -44,11 +44,6 @@ pub fn gradient(u: &Plan) -> Plan {
     g
 }
 
-/// Onto the box.
-pub fn project(p: &Plan) -> Plan {
-    p.map(|x| x.clamp(0.0, 1.0))
-}
-
 fn dot(a: &Plan, b: &Plan) -> f64 {
     let mut sum = [0.0; 4];
     for i in (0..PERIODS).step_by(4) {

@@ -1,4 +1,4 @@
-//! The inner solve of Pozkerrin for Rust, with no `unsafe` left to the caller.
+//! The inner solve of Pozkerrin for Rust, and its ready-made sets, with no `unsafe` left to the caller.
 //!
 //! What a C host could get wrong cannot be written here. A slice brings its own length, so no length is passed that is not there, and the
 //! engine refuses one that is not asked for. Lent places cannot overlap each other or the run, since a borrow shuts that out:
@@ -43,7 +43,9 @@
 
 mod ffi;
 mod inner;
+mod sets;
 mod words;
 
 pub use inner::{Inner, Settings};
+pub use sets::Sets;
 pub use words::{Answer, End, Outcome, Question, Refusal, Status};

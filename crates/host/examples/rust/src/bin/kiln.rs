@@ -4,8 +4,8 @@
 #[path = "../kiln_model.rs"]
 mod kiln_model;
 
-use kiln_model::{cost, gradient, project, temperatures, Memory, CURVE, PERIODS};
-use pozkerrin::{Answer, End, Inner, Outcome, Question, Refusal, Settings, Status};
+use kiln_model::{cost, gradient, temperatures, Memory, CURVE, PERIODS};
+use pozkerrin::{Answer, End, Inner, Outcome, Question, Refusal, Sets, Settings, Status};
 use std::process::ExitCode;
 
 /// How often each kind was asked: cost, gradient, project, direction, time.
@@ -15,6 +15,7 @@ fn solve(plan: &mut [f64; PERIODS], asked: &mut Asked) -> Result<Status, Refusal
     let (mut run, question) = Inner::start(&Settings::new(PERIODS, 200, 1e-8), plan)?;
     let (mut at, mut u) = ([0.0; PERIODS], [0.0; PERIODS]);
     let mut memory = Memory::default();
+    let powers = Sets::new().with_box(PERIODS, &[0.0; PERIODS], &[1.0; PERIODS]);
     let mut outcome = Outcome::Asked(question);
     loop {
         outcome = match outcome {
@@ -31,7 +32,8 @@ fn solve(plan: &mut [f64; PERIODS], asked: &mut Asked) -> Result<Status, Refusal
             Outcome::Asked(Question::Project) => {
                 asked[2] += 1;
                 run.points(&mut at, &mut [])?;
-                run.answer(Answer::Vector(&project(&at)), plan)
+                powers.project(&mut at)?;
+                run.answer(Answer::Vector(&at), plan)
             }
             Outcome::Asked(Question::Direction { forget }) => {
                 asked[3] += 1;

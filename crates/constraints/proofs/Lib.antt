@@ -1,0 +1,5 @@
+pub mod Turns
+pub mod Tables
+pub mod Nearest
+pub mod Products
+pub mod Fours
