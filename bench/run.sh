@@ -87,6 +87,11 @@ compile stack bench/c/stack.c "$out/models.o" "$archive" -lm -Wl,-z,now
 echo
 echo "Bytes of the archive: $(stat -c %s "$archive"); of its code and constants: $(size "$archive" | awk 'NR > 1 { sum += $1 } END { print sum }')."
 echo
+echo "### Ready-made sets"
+echo
+compile sets bench/c/sets.c "$out/models.o" "$archive" -lm
+"$out/sets" "$rounds"
+echo
 echo "### By-value calls inside Rattle"
 echo
 bash bench/values.sh

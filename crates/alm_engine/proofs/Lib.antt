@@ -1,0 +1,11 @@
+pub mod Scratch
+pub mod LoopHeld
+pub mod Iterations
+pub mod Tests
+pub mod Ends
+pub mod Weighs
+pub mod Maps
+pub mod Kept
+pub mod Carried
+pub mod Accepted
+pub mod Lent

@@ -1,0 +1,4 @@
+pub mod Values
+pub mod LoopBoard
+pub mod LoopRuns
+pub mod Tests

@@ -1,0 +1,5 @@
+pub mod Boards
+pub mod PsiLaws
+pub mod DPsiLaws
+pub mod StartLaws
+pub mod PointLaws

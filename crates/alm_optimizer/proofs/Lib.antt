@@ -1,0 +1,4 @@
+pub mod Waits
+pub mod Answers
+pub mod Starts
+pub mod Shows

@@ -1,0 +1,149 @@
+// The points of the question of a run.
+ghost use Rattle.std.specs.Prelude.{◌≡◌, ◌≤◌, List, Float, length, eqb};
+ghost use Rattle.machine.specs.LoopAnswer.{points, question_of};
+ghost use Rattle.alm_engine.specs.LoopRuns.{loop_run};
+ghost use Rattle.alm_optimizer.specs.Points.{point, inner_points, own_points, second_filled, second_places, pair_of, lying, roomy, shows};
+
+use crate::answering::fill_xi;
+use crate::waiting::is_sound;
+use alm_engine::alm_cache::{Alm, AlmPhase, AlmRun, AlmSettings};
+use board::copies::give;
+use board::{BEST, FPR, HALF, PLUS, STEP, U, Y, Y_PLUS};
+use panoc_engine::answers::in_range;
+use panoc_engine::outcome::Refusal;
+use panoc_engine::panoc_cache::Phase;
+use start_sizes::xi_fits;
+
+// The second point of a question: none, u, or xi with this penalty.
+#[derive(Clone, Copy)]
+pub enum Second {
+    Nothing,
+    Iterate,
+    Xi(f64),
+}
+
+// The vector in which the first point of a question lies, how many places it has, and the second.
+#[derive(Clone, Copy)]
+pub struct Located {
+    pub from: usize,
+    pub places: usize,
+    pub second: Second,
+}
+
+fn point(from: usize, places: usize, second: Second) -> Option<Located>
+    ensures { result ≡ point from places second }
+{
+    Some(Located {
+        from,
+        places,
+        second,
+    })
+}
+
+// Of a question of the inner solve: COST and GRADIENT have xi, DIRECTION has u.
+fn inner_points(n: usize, penalty: f64, phase: Phase) -> Option<Located>
+    ensures { result ≡ inner_points n penalty phase }
+{
+    let xi = Second::Xi(penalty);
+    match phase {
+        Phase::Over => None,
+        Phase::Time => point(U, 0, Second::Nothing),
+        Phase::Direction => point(FPR, n, Second::Iterate),
+        Phase::Project | Phase::DoubledProject | Phase::FirstProject | Phase::TriedProject => {
+            point(STEP, n, Second::Nothing)
+        }
+        Phase::HalfCost | Phase::DoubledCost => point(HALF, n, xi),
+        Phase::TriedCost | Phase::TriedGradient => point(PLUS, n, xi),
+        Phase::LastCost => point(BEST, n, xi),
+        Phase::Cost | Phase::Gradient | Phase::Shifted | Phase::FirstCost | Phase::FirstGradient =>
+            point(U, n, xi),
+    }
+}
+
+// Of one of the loop's own: the last COST has a xi whose penalty is 0.
+#[tactic(auto, using(ieee::proofs::Special::zero_bits))]
+fn own_points(set: AlmSettings, phase: AlmPhase) -> Option<Located>
+    ensures { result ≡ own_points set phase }
+{
+    match phase {
+        AlmPhase::Over | AlmPhase::Inner => None,
+        AlmPhase::Time => point(U, 0, Second::Nothing),
+        AlmPhase::ProjectY => point(Y, set.n1, Second::Nothing),
+        AlmPhase::F1 | AlmPhase::F2 => point(BEST, set.n, Second::Nothing),
+        AlmPhase::ProjectC => point(Y_PLUS, set.n1, Second::Nothing),
+        AlmPhase::LastCost => point(U, set.n, Second::Xi(0.0)),
+    }
+}
+
+// Of the question of a run; none where it has ended.
+#[tactic(auto, using(crate::proofs::Shows::places))]
+fn points_at(s: Alm) -> Option<Located>
+    ensures points { (l : List Float) → 768 ≤ length l → pair_of (question_of (loop_run s l)) ≡ lying s.set result l }
+    ensures room { roomy s.set result }
+{
+    if !is_sound(s) {
+        return None;
+    }
+    let phase = s.phase;
+    if let AlmPhase::Inner = phase {
+        if !in_range(s.solve) {
+            return None;
+        }
+        return inner_points(s.set.n, s.numbers.penalty, s.solve.phase);
+    }
+    own_points(s.set, phase)
+}
+
+// Whether so many places hold the second point.
+fn second_fits(set: AlmSettings, second: Second, places: usize) -> bool
+    ensures { result ≡ eqb places (second_places set second) }
+{
+    match second {
+        Second::Nothing => places == 0,
+        Second::Iterate => places == set.n,
+        Second::Xi(_) => xi_fits(set.n1, set.n2, places),
+    }
+}
+
+fn give_second(second: Second, board: &[f64], out: &mut [f64])
+    requires places { 768 ≤ length board.now }
+    requires room { length out.old ≤ 64 }
+    ensures { out.new ≡ second_filled second board.now out.old }
+{
+    match second {
+        Second::Nothing => {}
+        Second::Iterate => give(board, U, out),
+        Second::Xi(penalty) => fill_xi(penalty, board, Y, out),
+    }
+}
+
+// The points of the question of a run in place, copied; refused where it has ended or a slice is not as long as its point.
+#[tactic(auto, using(crate::proofs::Shows::points))]
+pub fn points_in_place(
+    s: Alm,
+    board: &[f64; 768],
+    first: &mut [f64],
+    second: &mut [f64],
+) -> Result<(), Refusal>
+    ensures { shows result first.new second.new ≡ points (loop_run s board.now) first.old second.old }
+{
+    let Some(p) = points_at(s) else {
+        return Err(Refusal::Over);
+    };
+    if first.len() != p.places {
+        return Err(Refusal::Lengths);
+    }
+    if !second_fits(s.set, p.second, second.len()) {
+        return Err(Refusal::Lengths);
+    }
+    give(board, p.from, first);
+    give_second(p.second, board, second);
+    Ok(())
+}
+
+// Those of a run by value.
+pub fn points(run: &AlmRun, first: &mut [f64], second: &mut [f64]) -> Result<(), Refusal>
+    ensures { shows result first.new second.new ≡ points (loop_run run.now.alm run.now.board) first.old second.old }
+{
+    points_in_place(run.alm, &run.board, first, second)
+}

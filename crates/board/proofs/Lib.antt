@@ -1,0 +1,4 @@
+pub mod Writes
+pub mod InnerBoard
+pub mod Loops
+pub mod Parts

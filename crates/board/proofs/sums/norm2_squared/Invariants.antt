@@ -1,0 +1,9 @@
+-- After i turns of `norm2_squared` the sum is that of the first i places. Assumes nothing.
+use Rattle.std.proofs.Common.{◌≡◌}
+use Rattle.std.specs.Float.{binary64}
+use Rattle.ieee.specs.Sums.{squares}
+use Rattle.board.specs.Board.{vector}
+use Rattle.board.proofs.sums.norm2_squared.Given as goal
+
+abbrev pub invariant-loop-i : goal.invariant-loop-i
+invariant-loop-i l = l.s ≡ squares binary64 (vector l.j l.i l.board)

@@ -1,0 +1,10 @@
+pub mod History
+pub mod Trace
+pub mod Claim
+pub mod Inner
+pub mod Lawful
+pub mod Left
+pub mod Follow
+pub mod Loop
+pub mod Psi
+pub mod Played

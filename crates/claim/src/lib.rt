@@ -1,0 +1,2 @@
+// The client's claim for every list of calls: its statements are in specs/, its theorems in proofs/.
+#![tactic(auto)]

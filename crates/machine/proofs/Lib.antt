@@ -1,0 +1,10 @@
+pub mod WaitLaws
+pub mod ShownLaws
+pub mod InnerLaws
+pub mod InnerAnswers
+pub mod NumberLaws
+pub mod LoopLaws
+pub mod LoopAnswers
+pub mod PsiLaws
+pub mod KeepLaws
+pub mod MachineLaws

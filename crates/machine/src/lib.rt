@@ -1,0 +1,3 @@
+#![tactic(auto)]
+
+// Runs as records, over any format, and what each answer leaves of them: see specs/.

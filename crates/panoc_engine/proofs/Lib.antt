@@ -1,0 +1,10 @@
+pub mod Formulas
+pub mod Held
+pub mod Estimates
+pub mod Doubles
+pub mod Searches
+pub mod Steps
+pub mod Halves
+pub mod Answered
+pub mod Moves
+pub mod Numbers

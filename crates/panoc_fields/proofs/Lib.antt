@@ -1,0 +1,4 @@
+pub mod NumberLaws
+pub mod Kept
+pub mod Arms
+pub mod CallLaws
