@@ -1,4 +1,9 @@
 // Square root, absolute value, larger of two, and the test for a finite number, each as the engine's formulas ask.
+pub mod root_test;
+pub mod root_guess;
+pub mod root_digits;
+pub mod square_root;
+
 #![tactic(auto)]
 
 ghost use Rattle.std.specs.Prelude.{◌≡◌};
@@ -7,7 +12,7 @@ ghost use Rattle.std.specs.Float.Ieee.Scale.{finite};
 ghost use Rattle.ieee.specs.Numbers.{absolute, larger};
 ghost use Rattle.ieee.specs.Root.{root};
 
-use square_root::root_bits;
+use crate::square_root::root_bits;
 
 // The pattern of -0: the bit of the sign.
 const SIGN: u64 = 1 << 63;

@@ -1,8 +1,8 @@
 -- `square_root::root_bits` meets its contract (`proofs/Scaling.antt`). Assumes nothing.
 use Rattle.std.proofs.Common.{◌^◌, ◌<◌}
 use Rattle.std.specs.Float.Ieee.{binary64}
-use Rattle.square_root.proofs.Scaling.{near_hi, finish, no_nan_bits}
-use Rattle.square_root.proofs.root_bits.Goals as goal
+use Rattle.numeric.proofs.Scaling.{near_hi, finish, no_nan_bits}
+use Rattle.numeric.proofs.square_root.root_bits.Goals as goal
 
 q-lt : (c : goal.After-nearest) → c.nearest.result < 2 ^ 53
 q-lt c = near_hi binary64 c.parts-m.result.m c.nearest.result c.parts-m.ensures.0 c.parts-m.ensures.1 c.nearest.ensures

@@ -2,8 +2,8 @@
 use Rattle.std.proofs.Common.{sym}
 use mathlib.Core.Bool.{true≢false}
 use borrow.Author.Tests.{ltb-true, ltb-false}
-use Rattle.root_test.proofs.Halves.{too_small, is_near, too_large}
-use Rattle.root_test.proofs.is_nearest.Goals as goal
+use Rattle.numeric.proofs.Halves.{too_small, is_near, too_large}
+use Rattle.numeric.proofs.root_test.is_nearest.Goals as goal
 
 pub returns-then-hi-lo : goal.returns-then-hi-lo
 returns-then-hi-lo c =

@@ -9,9 +9,9 @@ ghost use Rattle.ieee.specs.Root.{root};
 ghost use Rattle.ieee.specs.Squares.{IsNear};
 ghost use Rattle.ieee.specs.Patterns.{Sized};
 
-use root_digits::digits;
-use root_guess::guess;
-use root_test::is_nearest;
+use crate::root_digits::digits;
+use crate::root_guess::guess;
+use crate::root_test::is_nearest;
 
 // 2^52, the weight of the exponent's field. It stands in each crate of the root: shared, the one would be built on another for this line.
 const HID: u64 = 1 << 52;

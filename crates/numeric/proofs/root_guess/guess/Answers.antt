@@ -2,7 +2,7 @@
 use Rattle.std.proofs.Common.{arith}
 use Rattle.std.specs.Float.Ieee.{binary64}
 use Rattle.ieee.proofs.Patterns.{no_nan_below}
-use Rattle.root_guess.proofs.guess.Goals as goal
+use Rattle.numeric.proofs.root_guess.guess.Goals as goal
 
 pub float_from_bits-s : goal.float_from_bits-s
 float_from_bits-s c = no_nan_below binary64 c.pattern-p.result (omega arith)

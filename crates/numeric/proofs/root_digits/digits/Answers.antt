@@ -1,8 +1,8 @@
 -- `root_digits::digits` meets its contract: a turn keeps `Taken`, with a digit and without (`proofs/Turns.antt`). Assumes nothing.
 use Rattle.std.proofs.Common.{sym, subst₂, ℕ, ◌+◌, ◌*◌, ◌%◌, ◌^◌, ◌<◌, arith}
-use Rattle.root_digits.proofs.Turns.{Taken, bound, turn_with, turn_without}
-use Rattle.root_digits.proofs.digits.Goals as goal
-use Rattle.root_digits.proofs.digits.Goals.{then-t-rem, else-t-rem}
+use Rattle.numeric.proofs.Turns.{Taken, bound, turn_with, turn_without}
+use Rattle.numeric.proofs.root_digits.digits.Goals as goal
+use Rattle.numeric.proofs.root_digits.digits.Goals.{then-t-rem, else-t-rem}
 
 small : (c : goal.In-loop) → c.loop.q < 2 ^ 54
 small c = bound c.loop.q c.loop.counter c.loop.invariant.0 (omega arith)

@@ -1,8 +1,8 @@
 -- `square_root::parts` meets its contract (`proofs/Scaling.antt`). Assumes nothing.
 use Rattle.std.proofs.Common.{arith}
 use Rattle.std.specs.Float.Ieee.{binary64}
-use Rattle.square_root.proofs.Scaling.{zeros_lo, shifted, sized_odd, sized_even}
-use Rattle.square_root.proofs.parts.Goals as goal
+use Rattle.numeric.proofs.Scaling.{zeros_lo, shifted, sized_odd, sized_even}
+use Rattle.numeric.proofs.square_root.parts.Goals as goal
 
 pub overflow_sub-k : goal.overflow_sub-k
 overflow_sub-k c = omega (arith, zeros_lo c.args.b c.requires.0 c.if-b-lt-HID.true)
