@@ -46,7 +46,7 @@ use Rattle.alm_core.specs.declared.alm_cache.AlmPhase.TheVariants as P
 use Rattle.alm_core.specs.declared.alm_cache.AlmSettings.{AlmSettings}
 use Rattle.panoc_core.specs.Told as O
 use Rattle.panoc_core.specs.Told.{given}
-use Rattle.start_sizes.specs.SizeLaws.{xi_length_lem, xi_short}
+use Rattle.starts.specs.SizeLaws.{xi_length_lem, xi_short}
 use Rattle.alm_calls.specs.LoopCalls.{wanted_at, wanted_of, run_of, gave, lent_right, xi_given, xi_handed, limits_right, first_alm, Answers, Starts, Begins}
 use Rattle.alm_calls.specs.LoopLaws.{phase_code}
 

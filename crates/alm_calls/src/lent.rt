@@ -5,7 +5,7 @@ ghost use Rattle.panoc_core.specs.Told.{numbered};
 ghost use Rattle.alm_calls.specs.LoopCalls.{lent_right, xi_given, xi_handed};
 
 use alm_core::alm_cache::{AlmOutcome, AlmSettings};
-use start_sizes::xi_fits;
+use starts::sizes::xi_fits;
 
 // Whether the lent u and xi have the lengths asked.
 pub fn lent_fits(set: AlmSettings, us: usize, places: usize) -> bool

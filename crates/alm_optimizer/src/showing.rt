@@ -12,7 +12,7 @@ use board::{BEST, FPR, HALF, PLUS, STEP, U, Y, Y_PLUS};
 use panoc_engine::answers::in_range;
 use panoc_engine::outcome::Refusal;
 use panoc_engine::panoc_cache::Phase;
-use start_sizes::xi_fits;
+use starts::sizes::xi_fits;
 
 // The second point of a question: none, u, or xi with this penalty.
 #[derive(Clone, Copy)]

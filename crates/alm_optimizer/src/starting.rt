@@ -20,8 +20,8 @@ use panoc_engine::outcome::Refusal;
 use panoc_engine::panoc_cache::{
     Counts, ExitStatus, Gammas, InnerIterations, Norms, Phase, Settings, Solve,
 };
-use start_numbers::{factor_right, fraction_right, limit_right, tolerance_right};
-use start_sizes::{mappings_right, sizes_right};
+use starts::numbers::{factor_right, fraction_right, limit_right, tolerance_right};
+use starts::sizes::{mappings_right, sizes_right};
 
 // ---- why a start is refused
 

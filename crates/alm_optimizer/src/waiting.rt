@@ -12,7 +12,7 @@ use alm_engine::alm_cache::{Alm, AlmPhase, AlmSettings};
 use panoc_engine::outcome::Refusal;
 use panoc_engine::panoc_cache::Reply;
 use panoc_engine::refusals::{Wanted, refusal};
-use start_sizes::xi_fits;
+use starts::sizes::xi_fits;
 
 // Sizes as document 01 has them.
 #[tactic(auto, unfolding(machine::specs::LoopRest::sized, alm_engine::specs::LoopRuns::loop_run))]

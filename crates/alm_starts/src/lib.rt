@@ -16,8 +16,8 @@ use alm_first::first;
 use alm_iterations::begins;
 use matrix_operations::is_finite_in;
 use panoc_core::outcome::Refusal;
-use start_numbers::{factor_right, fraction_right, limit_right, tolerance_right};
-use start_sizes::{mappings_right, sizes_right};
+use starts::numbers::{factor_right, fraction_right, limit_right, tolerance_right};
+use starts::sizes::{mappings_right, sizes_right};
 use start_tests::{multipliers_in, penalty_in, xi_right};
 
 // The tolerances.

@@ -14,7 +14,7 @@ use alm_image::lent::keep_step;
 use alm_image::places::{N, N1, N2};
 use alm_image::records::LoopLent;
 use panoc_plan::hand_out;
-use start_sizes::xi_fits;
+use starts::sizes::xi_fits;
 
 // Whether the lent u and xi have the lengths asked.
 pub fn fits(lk: &[usize; 10], us: usize, places: usize) -> bool

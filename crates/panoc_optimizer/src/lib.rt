@@ -21,8 +21,8 @@ use panoc_engine::panoc_cache::{
     Run, Settings, Solve,
 };
 use panoc_engine::refusals::refusal;
-use start_numbers::{limit_right, tolerance_right};
-use start_sizes::sizes_right;
+use starts::numbers::{limit_right, tolerance_right};
+use starts::sizes::sizes_right;
 
 // ---- start
 

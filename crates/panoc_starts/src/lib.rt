@@ -14,8 +14,8 @@ use panoc_core::panoc_cache::{
     Answered, ExitStatus, InnerIterations, Numbers, Outcome, Phase, Question, Run, Settings, Solve,
     Stepped,
 };
-use start_numbers::{limit_right, tolerance_right};
-use start_sizes::sizes_right;
+use starts::numbers::{limit_right, tolerance_right};
+use starts::sizes::sizes_right;
 
 // Why a start at a lent u is refused: 1, 19, 3 or 4 of the table.
 #[tactic(auto, unfolding(model::specs::Refusals::inner_refusal, model::specs::Refusals::unless))]

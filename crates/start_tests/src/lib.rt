@@ -5,7 +5,7 @@ ghost use Rattle.std.specs.Prelude.{◌≡◌, ◌≤◌, length};
 ghost use Rattle.matrix_operations.specs.Firsts.{firsts};
 ghost use Rattle.model.specs.Refusals as R;
 
-use start_numbers::tolerance_right;
+use starts::numbers::tolerance_right;
 
 // c finite and above 0, and every y finite.
 #[tactic(auto, unfolding(model::specs::Refusals::xi_right))]

@@ -11,7 +11,7 @@ use crate::alm_factory::penalty::Penalty;
 use crate::alm_factory::steps::refuses;
 use crate::alm_factory::{PsiQuestion, Run, Sizes, State};
 use panoc_core::outcome::{Answered, Outcome, Refusal, Stepped};
-use start_sizes::{mappings_right, sizes_right};
+use starts::sizes::{mappings_right, sizes_right};
 use start_tests::{multipliers_in, penalty_in};
 
 // Sizes for which the arrays are long enough, as those of a run that a start made are.

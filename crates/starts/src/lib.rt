@@ -1,0 +1,3 @@
+// starts: say here what it holds.
+pub mod sizes;
+pub mod numbers;
