@@ -4,3 +4,4 @@ pub mod PsiCorners
 pub mod DPsiCorners
 pub mod Runs
 pub mod LongRun
+pub mod LoopCorners

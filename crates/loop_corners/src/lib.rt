@@ -1,3 +1,0 @@
-#![tactic(auto)]
-
-// The loop's corners of document 01 as theorems on the definitions, each run as the Rust plays it.
