@@ -2,11 +2,11 @@
 #![tactic(auto)]
 
 ghost use Rattle.std.specs.Prelude.{◌≡◌};
-ghost use Rattle.line_fields.specs.Left.{left};
+ghost use Rattle.words.specs.LineFieldsLeft.{left};
 ghost use Rattle.line_starts.specs.Lines.{closed, number_line, vector_line, failure_line, lend_line};
 
 use arrayvec::ArrayVec;
-use line_fields::Fields;
+use words::line_fields::Fields;
 use line_starts::alone;
 use line_starts::command::{Command, Said};
 use panoc_core::panoc_cache::Reply;

@@ -6,7 +6,7 @@ use Rattle.words.specs.Splitting.{words_of}
 use Rattle.line_sets.specs.declared.Keyword.{Keyword}
 use Rattle.line_sets.specs.declared.Change.{Change}
 use Rattle.line_sets.specs.declared.SetLine.{SetLine}
-use Rattle.line_fields.specs.Fields.{Left, ◌>>=◌, whole_field, rest_field}
+use Rattle.words.specs.Fields.{Left, ◌>>=◌, whole_field, rest_field}
 
 abbrev pub with_floats : Change → List Float → SetLine
 with_floats c xs = record { change = c; floats = record { items = xs } }

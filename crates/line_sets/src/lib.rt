@@ -2,12 +2,12 @@
 #![tactic(auto)]
 
 ghost use Rattle.std.specs.Prelude.{◌≡◌};
-ghost use Rattle.line_fields.specs.Left.{left};
+ghost use Rattle.words.specs.LineFieldsLeft.{left};
 ghost use Rattle.line_sets.specs.Lines.{keyword_of, closed, box_line, ball_line, onto_line, set_meant};
 
 use arrayvec::ArrayVec;
 use constraints::cartesian_product::{BALL2, RECTANGLE, Set};
-use line_fields::Fields;
+use words::line_fields::Fields;
 
 // A vector that is projected has no more places.
 pub const PLACES: usize = 128;

@@ -2,13 +2,13 @@
 use Rattle.std.specs.Prelude.{ℕ, List, [], ◌∷◌, Option, Some, None, nat_lt, if◌then◌else◌}
 use Rattle.std.specs.Float.Ieee.{Float}
 use Rattle.words.specs.Splitting.{words_of}
-use Rattle.keywords.specs.declared.Keyword.{Keyword}
+use Rattle.words.specs.declared.keywords.Keyword.{Keyword}
 use Rattle.line_starts.specs.declared.command.Command.{Command}
 use Rattle.line_starts.specs.declared.command.Said.{Said}
 use Rattle.panoc_core.specs.declared.panoc_cache.Reply.{Reply}
 use Rattle.factory.specs.declared.alm_factory.Sizes.{Sizes}
-use Rattle.line_fields.specs.Fields.{Left, Field, ◌>>=◌, whole_field, code_field, flag_field, float_field, tolerance_field, floats_field, rest_field}
-use Rattle.keywords.specs.Keywords.{keyword_of}
+use Rattle.words.specs.Fields.{Left, Field, ◌>>=◌, whole_field, code_field, flag_field, float_field, tolerance_field, floats_field, rest_field}
+use Rattle.words.specs.Keywords.{keyword_of}
 
 -- N N1 N2
 unfoldable pub sizes_field : Left → Field Sizes

@@ -4,12 +4,12 @@
 pub mod command;
 
 ghost use Rattle.std.specs.Prelude.{◌≡◌};
-ghost use Rattle.line_fields.specs.Left.{left};
+ghost use Rattle.words.specs.LineFieldsLeft.{left};
 ghost use Rattle.line_starts.specs.Lines.{plain, lent_line};
 
 use arrayvec::ArrayVec;
 use command::{Command, Said};
-use line_fields::Fields;
+use words::line_fields::Fields;
 
 // A command without floats.
 pub fn alone<const U: usize, const XI: usize>(command: Command) -> Said<U, XI>

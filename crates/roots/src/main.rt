@@ -1,8 +1,8 @@
 // Reads patterns of `f64`, 16 hexadecimal digits to a line, and writes each with the pattern of its root.
 #![tactic(auto)]
 
-use float_printing::to_bits;
-use float_words::{of_bits, read_pattern};
+use words::float_printing::to_bits;
+use words::float_words::{of_bits, read_pattern};
 use std::io;
 use std::io::{BufRead, BufReader};
 

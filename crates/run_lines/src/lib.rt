@@ -2,14 +2,14 @@
 #![tactic(auto)]
 
 ghost use Rattle.std.specs.Prelude.{◌≡◌};
-ghost use Rattle.line_fields.specs.Fields.{Gives};
-ghost use Rattle.line_fields.specs.Left.{left};
+ghost use Rattle.words.specs.Fields.{Gives};
+ghost use Rattle.words.specs.LineFieldsLeft.{left};
 ghost use Rattle.line_starts.specs.Lines.{sizes_field, inner_line, loop_line};
 
 use alm_core::alm_cache::AlmSettings;
 use arrayvec::ArrayVec;
 use factory::alm_factory::Sizes;
-use line_fields::Fields;
+use words::line_fields::Fields;
 use line_starts::command::{Command, Said};
 use line_starts::lent;
 use panoc_core::panoc_cache::Settings;

@@ -4,9 +4,9 @@
 ghost use Rattle.std.specs.Prelude.{◌≡◌};
 ghost use Rattle.line_starts.specs.Lines.{meant};
 
-use keywords::{Keyword, begins};
+use words::keywords::{Keyword, begins};
 use line_answers::{bare, failure, lend, number, vector};
-use line_fields::Fields;
+use words::line_fields::Fields;
 use line_starts::command::{Command, Said};
 use line_starts::lent;
 use panoc_core::panoc_cache::Reply;

@@ -1,7 +1,7 @@
 // What the small programs print, in the form of the transcript: floats by their bits, the word of an end.
 #![tactic(auto)]
 
-use float_printing::to_bits;
+use words::float_printing::to_bits;
 use panoc_core::panoc_cache::ExitStatus;
 use std::fmt;
 

@@ -1,7 +1,7 @@
 // What the transcript program prints of a call of an inner solve.
 #![tactic(auto)]
 
-use line_printing::put_floats;
+use words::line_printing::put_floats;
 use panoc_core::panoc_cache::{Answered, SolverStatus};
 use panoc_places::{first_places, second_places};
 use panoc_points::points;

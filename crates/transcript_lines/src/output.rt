@@ -5,7 +5,7 @@ ghost use Rattle.arrayvec.specs.ArrayVec.{array_vec_len};
 ghost use Rattle.std.specs.Prelude.{◌≤◌, length};
 
 use arrayvec::ArrayVec;
-use line_printing::{put_counted, put_point};
+use words::line_printing::{put_counted, put_point};
 use panoc_core::outcome::{Outcome, Refusal};
 use panoc_core::panoc_cache::ExitStatus;
 

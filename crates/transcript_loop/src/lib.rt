@@ -5,7 +5,7 @@ ghost use Rattle.std.specs.Prelude.{◌≤◌, length};
 
 use alm_core::alm_cache::{Alm, AlmAnswered, AlmOptimizerStatus, AlmQuestion};
 use alm_points::{first_places, points, second_places};
-use line_printing::{put_counted, put_floats};
+use words::line_printing::{put_counted, put_floats};
 use panoc_core::panoc_cache::Question;
 use transcript_lines::output::{Line, asked, ended};
 use transcript_lines::{names, output};

@@ -3,7 +3,7 @@
 
 use arrayvec::ArrayVec;
 use constraints::cartesian_product::{Refusal, Set, project};
-use line_printing::put_counted;
+use words::line_printing::put_counted;
 use line_sets::{Change, SetLine};
 use transcript_lines::output::{Line, alone, put_points};
 

@@ -7,7 +7,7 @@ ghost use Rattle.std.specs.Prelude.{◌≡◌, min};
 use alm_core::alm_cache::AlmRun;
 use arrayvec::ArrayVec;
 use factory::alm_factory::{DPsiRun, PsiRun};
-use line_printing::put_counted;
+use words::line_printing::put_counted;
 use panoc_core::panoc_cache::Run;
 use transcript_lines::output::{Line, put_points};
 

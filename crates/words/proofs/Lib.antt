@@ -1,1 +1,4 @@
 pub mod CutLaws
+pub mod Written
+pub mod RoundTrip
+pub mod FloatLaws

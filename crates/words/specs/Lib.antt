@@ -1,2 +1,11 @@
 pub mod Splitting
 pub mod Left
+pub mod Digits
+pub mod Reading
+pub mod Numerals
+pub mod Floats
+pub mod Keywords
+pub mod Printing
+pub mod Values
+pub mod Fields
+pub mod LineFieldsLeft

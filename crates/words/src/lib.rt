@@ -1,4 +1,13 @@
 // The words of a line, one space apart.
+pub mod numbers;
+pub mod keywords;
+pub mod word_printing;
+pub mod float_words;
+pub mod word_values;
+pub mod line_fields;
+pub mod float_printing;
+pub mod line_printing;
+
 #![tactic(auto)]
 
 ghost use Rattle.std.specs.Prelude.{◌≡◌, ◌==◌, ◌∷◌, position};

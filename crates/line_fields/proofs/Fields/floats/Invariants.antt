@@ -1,8 +1,0 @@
--- `line_fields::Fields::floats` meets its contract: the floats read, with those still to come, are those of the line. Assumes nothing.
-use Rattle.std.proofs.Common.{◌≡◌, ◌-◌, [], length}
-use Rattle.line_fields.specs.Fields.{floats_field}
-use Rattle.line_fields.specs.Left.{left}
-use Rattle.line_fields.proofs.Fields.floats.Given as goal
-
-abbrev pub invariant-loop : goal.invariant-loop
-invariant-loop g l = (length l.floats.items ≡ l.counter) × (floats_field l.floats.items (l.n - l.counter) (left l.self) ≡ floats_field [] l.n (left l.fn.self))

@@ -1,4 +1,0 @@
-pub mod Digits
-pub mod Reading
-pub mod Numerals
-pub mod Floats

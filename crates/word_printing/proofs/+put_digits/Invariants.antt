@@ -1,5 +1,0 @@
--- `word_printing::put_digits` ends. Assumes nothing.
-use Rattle.word_printing.proofs.+put_digits.Given as goal
-
-abbrev pub decreases-put_digits : goal.decreases-put_digits
-decreases-put_digits g l = l.places
