@@ -1,20 +1,26 @@
 // What a line of a script says: TRANSCRIPT.md, "Calls that start a run" and "Calls that answer".
+pub mod starting;
+pub mod command;
+pub mod answers;
+pub mod runs;
+pub mod sets;
+
 #![tactic(auto)]
 
 ghost use Rattle.std.specs.Prelude.{◌≡◌};
-ghost use Rattle.line_starts.specs.Lines.{meant};
+ghost use Rattle.script.specs.StartingLines.{meant};
 
 use words::keywords::{Keyword, begins};
-use line_answers::{bare, failure, lend, number, vector};
+use crate::answers::{bare, failure, lend, number, vector};
 use words::line_fields::Fields;
-use line_starts::command::{Command, Said};
-use line_starts::lent;
+use crate::command::{Command, Said};
+use crate::starting::lent;
 use panoc_core::panoc_cache::Reply;
-use run_lines::{inner, outer, sizes};
+use crate::runs::{inner, outer, sizes};
 
 // What a line says, None for a line of another form; as many places may be lent of u and of xi as U and XI say.
 // One match over the keywords: each arm is another reader, so a table is no plainer.
-#[tactic(auto, unfolding(line_starts::specs::Lines::meant, line_starts::specs::Lines::by_words, line_starts::specs::Lines::line_by, line_starts::specs::Lines::psi_line, line_starts::specs::Lines::d_psi_line))]
+#[tactic(auto, unfolding(crate::specs::StartingLines::meant, crate::specs::StartingLines::by_words, crate::specs::StartingLines::line_by, crate::specs::StartingLines::psi_line, crate::specs::StartingLines::d_psi_line))]
 pub fn said<const U: usize, const XI: usize>(line: &[u8]) -> Option<Said<U, XI>>
     ensures { result ≡ meant U XI line.now }
 {

@@ -5,7 +5,7 @@ mod answers;
 mod reading;
 
 use answers::answered;
-use line_starts::command::{Command, Said};
+use script::command::{Command, Said};
 use reading::{heard, heard_of_sets, next};
 use std::io;
 use std::io::{BufReader, BufWriter, Write};

@@ -1,6 +1,6 @@
 // The next line of the input, and what a line says.
-use line_sets::SetLine;
-use line_starts::command::Said;
+use script::sets::SetLine;
+use script::command::Said;
 use script::said;
 use std::io;
 use std::io::{BufRead, Read};
@@ -37,6 +37,6 @@ pub fn heard_of_sets(line: &[u8]) -> Option<SetLine> {
     if line.len() > LONGEST {
         None
     } else {
-        line_sets::said(line)
+        script::sets::said(line)
     }
 }

@@ -4,7 +4,7 @@
 use arrayvec::ArrayVec;
 use constraints::cartesian_product::{Refusal, Set, project};
 use words::line_printing::put_counted;
-use line_sets::{Change, SetLine};
+use script::sets::{Change, SetLine};
 use transcript_lines::output::{Line, alone, put_points};
 
 // The sets, their numbers, and the vector that was projected last. More sets than a table takes may be added, so that such a table can be tried.

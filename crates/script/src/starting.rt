@@ -1,11 +1,9 @@
 // What a line says as a command, and the floats behind the settings of a start.
 #![tactic(auto)]
 
-pub mod command;
-
 ghost use Rattle.std.specs.Prelude.{◌≡◌};
 ghost use Rattle.words.specs.LineFieldsLeft.{left};
-ghost use Rattle.line_starts.specs.Lines.{plain, lent_line};
+ghost use Rattle.script.specs.StartingLines.{plain, lent_line};
 
 use arrayvec::ArrayVec;
 use command::{Command, Said};
@@ -23,7 +21,7 @@ pub fn alone<const U: usize, const XI: usize>(command: Command) -> Said<U, XI>
 }
 
 // The floats behind the settings: LENGTH_U U... XI...
-#[tactic(auto, unfolding(crate::specs::Lines::lent_line))]
+#[tactic(auto, unfolding(crate::specs::StartingLines::lent_line))]
 pub fn lent<const U: usize, const XI: usize>(
     mut fields: Fields,
     command: Command,

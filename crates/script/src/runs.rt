@@ -4,18 +4,18 @@
 ghost use Rattle.std.specs.Prelude.{◌≡◌};
 ghost use Rattle.words.specs.Fields.{Gives};
 ghost use Rattle.words.specs.LineFieldsLeft.{left};
-ghost use Rattle.line_starts.specs.Lines.{sizes_field, inner_line, loop_line};
+ghost use Rattle.script.specs.StartingLines.{sizes_field, inner_line, loop_line};
 
 use alm_core::alm_cache::AlmSettings;
 use arrayvec::ArrayVec;
 use factory::alm_factory::Sizes;
 use words::line_fields::Fields;
-use line_starts::command::{Command, Said};
-use line_starts::lent;
+use crate::command::{Command, Said};
+use crate::starting::lent;
 use panoc_core::panoc_cache::Settings;
 
 // inner N M LIMITED TOLERANCE AKKT U...
-#[tactic(auto, unfolding(line_starts::specs::Lines::inner_line))]
+#[tactic(auto, unfolding(crate::specs::StartingLines::inner_line))]
 pub fn inner<const U: usize, const XI: usize>(mut fields: Fields) -> Option<Said<U, XI>>
     ensures { result ≡ inner_line U XI (left fields.entry) }
 {
@@ -34,7 +34,7 @@ pub fn inner<const U: usize, const XI: usize>(mut fields: Fields) -> Option<Said
 }
 
 // N N1 N2
-#[tactic(auto, unfolding(line_starts::specs::Lines::sizes_field))]
+#[tactic(auto, unfolding(crate::specs::StartingLines::sizes_field))]
 pub fn sizes(fields: &mut Fields) -> Option<Sizes>
     ensures { Gives (sizes_field (left fields.old)) result (left fields.new) }
 {
@@ -46,7 +46,7 @@ pub fn sizes(fields: &mut Fields) -> Option<Sizes>
 }
 
 // loop N N1 N2 Y M K LIMITED TOLERANCE EPSILON DELTA AKKT PENALTY_FACTOR EPSILON_FACTOR COEFFICIENT LENGTH_U U... XI...
-#[tactic(auto, unfolding(line_starts::specs::Lines::loop_line))]
+#[tactic(auto, unfolding(crate::specs::StartingLines::loop_line))]
 pub fn outer<const U: usize, const XI: usize>(mut fields: Fields) -> Option<Said<U, XI>>
     ensures { result ≡ loop_line U XI (left fields.entry) }
 {

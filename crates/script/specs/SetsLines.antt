@@ -3,9 +3,9 @@ use Rattle.std.specs.Prelude.{ℕ, ◌+◌, ◌-◌, List, [], ◌∷◌, Option
 use Rattle.std.specs.Str.{bytes_eq}
 use Rattle.std.specs.Float.Ieee.{Float}
 use Rattle.words.specs.Splitting.{words_of}
-use Rattle.line_sets.specs.declared.Keyword.{Keyword}
-use Rattle.line_sets.specs.declared.Change.{Change}
-use Rattle.line_sets.specs.declared.SetLine.{SetLine}
+use Rattle.script.specs.declared.sets.Keyword.{Keyword}
+use Rattle.script.specs.declared.sets.Change.{Change}
+use Rattle.script.specs.declared.sets.SetLine.{SetLine}
 use Rattle.words.specs.Fields.{Left, ◌>>=◌, whole_field, rest_field}
 
 abbrev pub with_floats : Change → List Float → SetLine

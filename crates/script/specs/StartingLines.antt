@@ -3,8 +3,8 @@ use Rattle.std.specs.Prelude.{ℕ, List, [], ◌∷◌, Option, Some, None, nat_
 use Rattle.std.specs.Float.Ieee.{Float}
 use Rattle.words.specs.Splitting.{words_of}
 use Rattle.words.specs.declared.keywords.Keyword.{Keyword}
-use Rattle.line_starts.specs.declared.command.Command.{Command}
-use Rattle.line_starts.specs.declared.command.Said.{Said}
+use Rattle.script.specs.declared.command.Command.{Command}
+use Rattle.script.specs.declared.command.Said.{Said}
 use Rattle.panoc_core.specs.declared.panoc_cache.Reply.{Reply}
 use Rattle.factory.specs.declared.alm_factory.Sizes.{Sizes}
 use Rattle.words.specs.Fields.{Left, Field, ◌>>=◌, whole_field, code_field, flag_field, float_field, tolerance_field, floats_field, rest_field}

@@ -1,0 +1,2 @@
+pub mod StartingLines
+pub mod SetsLines
