@@ -1,5 +1,5 @@
 #!/usr/bin/env python3
-"""corners.py [--check]: writes the specs of crates corners and loop_corners, the runs of oracle/corners.txt as theorems on the definitions.
+"""corners.py [--check]: writes the specs of crates corners, the runs of oracle/corners.txt as theorems on the definitions.
 
 The questions, points, ends and lent places are what `oracle expect` prints, which runs the Rust files unchanged. Left out are calls that
 lend other places than the start's (`lend`), lines of ready-made sets, which are of no run, and runs with lines of another form, of more than 12
@@ -261,7 +261,7 @@ def head(what, text):
 
 FILES = {
     "inner": ("corners", "InnerCorners", "inner solves"),
-    "loop": ("loop_corners", "LoopCorners", "the loop"),
+    "loop": ("corners", "LoopCorners", "the loop"),
     "psi": ("corners", "PsiCorners", "psi"),
     "d_psi": ("corners", "DPsiCorners", "d_psi"),
 }

@@ -1,4 +1,2 @@
-
+// The corners of document 01 as theorems on the definitions, each run as the Rust plays it.
 #![tactic(auto)]
-
-// The corners of document 01, but those of the loop, as theorems on the definitions, each run as the Rust plays it.

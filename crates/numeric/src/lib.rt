@@ -1,10 +1,10 @@
 // Square root, absolute value, larger of two, and the test for a finite number, each as the engine's formulas ask.
-pub mod root_test;
-pub mod root_guess;
-pub mod root_digits;
-pub mod square_root;
-
 #![tactic(auto)]
+
+pub mod root_digits;
+pub mod root_guess;
+pub mod root_test;
+pub mod square_root;
 
 ghost use Rattle.std.specs.Prelude.{◌≡◌};
 ghost use Rattle.std.specs.Float.{binary64};

@@ -5,11 +5,11 @@ ghost use Rattle.std.specs.Prelude.{◌≡◌};
 ghost use Rattle.words.specs.LineFieldsLeft.{left};
 ghost use Rattle.script.specs.StartingLines.{closed, number_line, vector_line, failure_line, lend_line};
 
-use arrayvec::ArrayVec;
-use words::line_fields::Fields;
-use crate::starting::alone;
 use crate::command::{Command, Said};
+use crate::starting::alone;
+use arrayvec::ArrayVec;
 use panoc_core::panoc_cache::Reply;
+use words::line_fields::Fields;
 
 // A command without further fields.
 pub fn bare<const U: usize, const XI: usize>(

@@ -1,22 +1,22 @@
 // What a line of a script says: TRANSCRIPT.md, "Calls that start a run" and "Calls that answer".
-pub mod starting;
-pub mod command;
+#![tactic(auto)]
+
 pub mod answers;
+pub mod command;
 pub mod runs;
 pub mod sets;
-
-#![tactic(auto)]
+pub mod starting;
 
 ghost use Rattle.std.specs.Prelude.{◌≡◌};
 ghost use Rattle.script.specs.StartingLines.{meant};
 
-use words::keywords::{Keyword, begins};
 use crate::answers::{bare, failure, lend, number, vector};
-use words::line_fields::Fields;
 use crate::command::{Command, Said};
+use crate::runs::{inner, outer, sizes};
 use crate::starting::lent;
 use panoc_core::panoc_cache::Reply;
-use crate::runs::{inner, outer, sizes};
+use words::keywords::{Keyword, begins};
+use words::line_fields::Fields;
 
 // What a line says, None for a line of another form; as many places may be lent of u and of xi as U and XI say.
 // One match over the keywords: each arm is another reader, so a table is no plainer.

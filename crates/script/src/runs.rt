@@ -6,13 +6,13 @@ ghost use Rattle.words.specs.Fields.{Gives};
 ghost use Rattle.words.specs.LineFieldsLeft.{left};
 ghost use Rattle.script.specs.StartingLines.{sizes_field, inner_line, loop_line};
 
+use crate::command::{Command, Said};
+use crate::starting::lent;
 use alm_core::alm_cache::AlmSettings;
 use arrayvec::ArrayVec;
 use factory::alm_factory::Sizes;
-use words::line_fields::Fields;
-use crate::command::{Command, Said};
-use crate::starting::lent;
 use panoc_core::panoc_cache::Settings;
+use words::line_fields::Fields;
 
 // inner N M LIMITED TOLERANCE AKKT U...
 #[tactic(auto, unfolding(crate::specs::StartingLines::inner_line))]

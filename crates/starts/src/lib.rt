@@ -1,3 +1,5 @@
-// starts: say here what it holds.
-pub mod sizes;
+// What a start tests: its sizes, and the numbers of its settings.
+#![tactic(auto)]
+
 pub mod numbers;
+pub mod sizes;

@@ -8,8 +8,8 @@ ghost use Rattle.std.specs.Float.{binary64};
 ghost use Rattle.std.specs.Prelude.{◌≡◌, ◌+◌, ◌≤◌, ◌++◌};
 ghost use Rattle.words.specs.Printing.{float_word};
 
-use arrayvec::ArrayVec;
 use crate::word_printing::put_digits;
+use arrayvec::ArrayVec;
 
 // The pattern that is printed for every NaN.
 const QUIET: u64 = 0x7ff8_0000_0000_0000;

@@ -1,14 +1,14 @@
-// The words of a line, one space apart.
-pub mod numbers;
-pub mod keywords;
-pub mod word_printing;
-pub mod float_words;
-pub mod word_values;
-pub mod line_fields;
-pub mod float_printing;
-pub mod line_printing;
-
+// The words of a line, one space apart, and what they are read as and printed from: numbers, floats, keywords, fields.
 #![tactic(auto)]
+
+pub mod float_printing;
+pub mod float_words;
+pub mod keywords;
+pub mod line_fields;
+pub mod line_printing;
+pub mod numbers;
+pub mod word_printing;
+pub mod word_values;
 
 ghost use Rattle.std.specs.Prelude.{◌≡◌, ◌==◌, ◌∷◌, position};
 ghost use Rattle.words.specs.Splitting.{words_of};

@@ -7,11 +7,11 @@ ghost use Rattle.words.specs.Splitting.{words_of};
 ghost use Rattle.words.specs.Fields.{whole_field, code_field, flag_field, float_field, tolerance_field, floats_field, rest_field, Gives};
 ghost use Rattle.words.specs.LineFieldsLeft.{left};
 
-use arrayvec::ArrayVec;
+use crate::Words;
 use crate::float_words::read_float;
 use crate::numbers::{read_whole, read_whole32};
 use crate::word_values::{read_flag, read_tolerance};
-use crate::Words;
+use arrayvec::ArrayVec;
 
 // What is left of a line. A field that is read is used up, of whatever form it is.
 #[derive(Drop)]

@@ -6,9 +6,9 @@ ghost use Rattle.arrayvec.specs.ArrayVec.{array_vec_len};
 ghost use Rattle.std.specs.Prelude.{◌≡◌, ◌+◌, ◌*◌, ◌≤◌, ◌++◌, length};
 ghost use Rattle.words.specs.Printing.{counted_text, floats_text, point_text};
 
-use arrayvec::ArrayVec;
 use crate::float_printing::put_float;
 use crate::word_printing::{put_whole, put_word};
+use arrayvec::ArrayVec;
 
 // Floats, each with a space before it.
 pub fn put_floats<const N: usize>(xs: &[f64], out: &mut ArrayVec<u8, N>)
