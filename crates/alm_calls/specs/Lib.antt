@@ -1,2 +1,0 @@
-pub mod LoopCalls
-pub mod LoopLaws

@@ -1,6 +1,0 @@
-pub mod Values
-pub mod Rest
-pub mod Board
-pub mod Laws
-pub mod Handed
-pub mod LentLoop

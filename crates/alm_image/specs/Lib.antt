@@ -1,3 +1,0 @@
-pub mod AlmImage
-pub mod AlmStored
-pub mod LentLoop

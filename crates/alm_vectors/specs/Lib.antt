@@ -1,3 +1,0 @@
-pub mod LoopPoints
-pub mod VectorLaws
-pub mod LentLoopPoints

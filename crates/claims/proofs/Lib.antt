@@ -1,7 +1,0 @@
-pub mod Lawful
-pub mod Left
-pub mod Follow
-pub mod Chosen
-pub mod InnerProof
-pub mod LoopProof
-pub mod PsiProof

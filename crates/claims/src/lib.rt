@@ -1,2 +1,0 @@
-// Demand 3 for every list of calls: its statements are in specs/, its theorems in proofs/.
-#![tactic(auto)]

@@ -1,9 +1,0 @@
-pub mod FactoryValues
-pub mod FactoryRest
-pub mod FactoryCalls
-pub mod FactoryBoard
-pub mod FactoryLent
-pub mod FactoryLaws
-pub mod FactoryRuns
-pub mod FactoryPenalties
-pub mod FactoryStarts

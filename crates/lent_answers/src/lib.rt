@@ -1,2 +1,0 @@
-// Laws only: an answer to an inner solve on lent numbers.
-#![tactic(auto)]

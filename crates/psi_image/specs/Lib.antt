@@ -1,3 +1,0 @@
-pub mod LentPsi
-pub mod PsiImage
-pub mod PsiStored

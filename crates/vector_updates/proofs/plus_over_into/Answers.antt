@@ -1,8 +1,0 @@
--- `vector_updates::plus_over_into` meets its contract: each turn stores a place of a + b / c. Assumes nothing.
-use Rattle.std.proofs.Common.{rules}
-use Rattle.std.specs.Float.Ieee.{binary64}
-use Rattle.matrix_operations.specs.Laws.{firsts_grows, plus_over_grows, at_places}
-use Rattle.vector_updates.proofs.plus_over_into.Goals as goal
-
-pub returns : goal.returns
-returns c = at_places (plus_over_grows binary64 (firsts_grows _) (firsts_grows _) _) c.args.n c.fill.ensures (λ i y h p. search rules)
