@@ -87,7 +87,7 @@ odd_sum : (f : Format) (e : ℕ) → 1 ≤ e → e % 2 ≡ 1 → suc (prec f) + 
 odd_sum binary32 e l o = omega arith
 odd_sum binary64 e l o = omega arith
 
-even_sum : (f : Format) (e : ℕ) → 1 ≤ e → e % 2 ≡ 0 → suc (suc (prec f)) + ((e + (bias f - 1)) / 2 + (e + (bias f - 1)) / 2) ≡ e - 1 + low f
+even_sum : (f : Format) (e : ℕ) → 1 ≤ e → e % 2 ≡ 0 → suc (suc (prec f)) + ((e + bias f) / 2 + (e + bias f) / 2) ≡ e - 1 + low f
 even_sum binary32 e l o = omega arith
 even_sum binary64 e l o = omega arith
 
@@ -108,12 +108,12 @@ sized_odd f b h o =
     let e = b / hid f in
     pows (hid f + b % hid f) (suc (prec f)) ((e + bias f) / 2) (e - 1) (low f) (odd_sum f e (field f b h) (one_of e o)) ∙ ap (λ (x : ℕ). x * 2 ^ low f) (sym (mag_normal f b h))
 
-pub sized_even : (f : Format) (b : ℕ) → hid f ≤ b → b / hid f % 2 ≡ 0 → Sized f b ((hid f + b % hid f) * 2) ((b / hid f + (bias f - 1)) / 2)
+pub sized_even : (f : Format) (b : ℕ) → hid f ≤ b → b / hid f % 2 ≡ 0 → Sized f b ((hid f + b % hid f) * 2) ((b / hid f + bias f) / 2)
 unfolding Sized
 sized_even f b h o =
     let e = b / hid f in
     let m = hid f + b % hid f in
-    let j = (e + (bias f - 1)) / 2 in
+    let j = (e + bias f) / 2 in
     ap (λ (x : ℕ). x * (2 ^ j * 2 ^ j)) (mul_assoc m 2 (2 ^ suc (prec f)) ∙ ap (λ (x : ℕ). m * x) (sym (pow-succ' 2 (suc (prec f)))))
     ∙ pows m (suc (suc (prec f))) j (e - 1) (low f) (even_sum f e (field f b h) o)
     ∙ ap (λ (x : ℕ). x * 2 ^ low f) (sym (mag_normal f b h))

@@ -24,17 +24,20 @@ const INFINITY: u64 = 0x7ff0_0000_0000_0000;
 pub fn sqrt(x: f64) -> f64
     ensures { result ≡ root binary64 x }
 {
-    if x.is_nan() || x == 0.0 {
-        return x; // a zero with its sign
+    if x.is_nan() {
+        return x;
     }
     let b = x.to_bits();
+    if 0 < b && b < INFINITY {
+        return f64::from_bits(root_bits(b));
+    }
+    if x == 0.0 {
+        return x; // a zero with its sign
+    }
     if b >= SIGN {
         return f64::NAN;
     }
-    if b >= INFINITY {
-        return x;
-    }
-    f64::from_bits(root_bits(b))
+    x
 }
 
 // The same number with the sign cleared, also of -0.

@@ -1,50 +1,62 @@
-// A guess of a root by Newton's steps, which no proof relies on.
+// A guess of a root in whole numbers, which no proof relies on: a straight line for the inverse root, and Newton's steps.
 // That m lies in its range is a clause and no invariant: square_root makes m at one place, and a type for it would be named by four crates.
 #![tactic(auto)]
 
 ghost use Rattle.std.specs.Prelude.{◌*◌, ◌^◌, ◌≤◌, ◌<◌};
 
-// 2^52, the weight of the exponent's field. It stands in each crate of the root: shared, the one would be built on another for this line.
-const HID: u64 = 1 << 52;
+// A piece is 2^47, the 32nd part of 2^52. In piece i, from 2^52 on, the inverse root of m / 2^52 is near START[i] / 2^16 at first and falls by
+// SLOPE[i] / 2^22.
+const PIECE: u64 = 1 << 47;
 
-// This less half of a number's pattern is near the pattern of its inverse root.
-const INVERSE: u64 = 6910469410427058089;
+// Three, of 2^30.
+const THREE: u64 = 3 << 30;
 
-// The pattern of m / 2^52, cut to 53 digits.
-fn pattern(m: u64) -> u64
+static START: [u16; 96] = [
+    65533, 64533, 63577, 62662, 61786, 60945, 60138, 59362, 58616, 57896, 57203, 56534, 55888,
+    55264, 54660, 54075, 53509, 52960, 52428, 51911, 51410, 50923, 50449, 49988, 49540, 49103,
+    48678, 48264, 47860, 47466, 47082, 46707, 46340, 45983, 45633, 45291, 44957, 44630, 44310,
+    43997, 43690, 43390, 43096, 42808, 42525, 42248, 41976, 41710, 41448, 41192, 40940, 40692,
+    40449, 40211, 39976, 39746, 39519, 39297, 39078, 38863, 38651, 38442, 38237, 38036, 37837,
+    37642, 37449, 37259, 37073, 36889, 36707, 36529, 36353, 36179, 36008, 35839, 35673, 35509,
+    35347, 35188, 35030, 34875, 34722, 34570, 34421, 34274, 34128, 33984, 33843, 33702, 33564,
+    33427, 33292, 33159, 33027, 32897,
+];
+
+static SLOPE: [u16; 96] = [
+    64039, 61192, 58551, 56094, 53804, 51666, 49666, 47792, 46032, 44378, 42821, 41353, 39967,
+    38656, 37416, 36241, 35125, 34066, 33059, 32101, 31188, 30318, 29487, 28694, 27935, 27210,
+    26515, 25849, 25211, 24599, 24011, 23446, 22902, 22380, 21877, 21393, 20926, 20476, 20042,
+    19623, 19218, 18827, 18449, 18084, 17731, 17389, 17057, 16737, 16426, 16124, 15832, 15548,
+    15273, 15006, 14747, 14494, 14249, 14011, 13780, 13554, 13335, 13122, 12914, 12712, 12515,
+    12323, 12135, 11953, 11775, 11601, 11432, 11267, 11105, 10948, 10794, 10644, 10497, 10354,
+    10213, 10076, 9942, 9811, 9683, 9557, 9435, 9314, 9197, 9082, 8969, 8858, 8750, 8644, 8540,
+    8438, 8338, 8240,
+];
+
+// The inverse root of m / 2^52 in parts of 2^32, with 14 good bits.
+fn line(m: u64) -> u64
     requires { (2 ^ 52 ≤ m) × (m < 2 ^ 54) }
-    ensures { result < 1025 * 2 ^ 52 }
 {
-    if m < 2 * HID {
-        m + 1022 * HID
-    } else {
-        m / 2 + 1023 * HID
-    }
+    let i = (m / PIECE - 32) as usize;
+    let start = u64::from(START[i]) << 16;
+    start.wrapping_sub(u64::from(SLOPE[i]).wrapping_mul(m % PIECE) >> 37)
 }
 
-// One of Newton's steps to the inverse root of 2 * h, its products waiting for each other as little as may be; the last is written so that
-// it rounds best.
-fn step(h: f64, y: f64) -> f64 {
-    1.5 * y - (h * y) * (y * y)
+// The upper half of a product.
+fn upper(a: u64, b: u64) -> u64 {
+    ((u128::from(a) * u128::from(b)) >> 64) as u64
 }
 
-fn last_step(h: f64, y: f64) -> f64 {
-    y * (1.5 - h * y * y)
-}
-
-// A whole number that should be near the root of m * 2^52.
+// A number that should be the whole one nearest to the root of m * 2^52.
 pub fn guess(m: u64) -> u64
     requires { (2 ^ 52 ≤ m) × (m < 2 ^ 54) }
-    ensures { (2 ^ 52 ≤ result) × (result < 2 ^ 53) }
+    ensures { result < 2 ^ 55 }
 {
-    let p = pattern(m);
-    let s = f64::from_bits(p);
-    let h = 0.5 * s;
-    let y = last_step(h, step(h, step(h, f64::from_bits(INVERSE - p / 2))));
-    let g = s * y;
-    let r = g + (s - g * g) * (0.5 * y);
-    if r.is_nan() {
-        return HID;
-    }
-    HID + r.to_bits() % HID
+    let y = line(m);
+    let s = (m >> 22).wrapping_mul(y) >> 32;
+    let u = THREE.wrapping_sub(s.wrapping_mul(y) >> 32);
+    let y = (y.wrapping_mul(u) >> 32) << 33;
+    let s = upper(m << 10, y);
+    let u = (THREE << 32).wrapping_sub(upper(s, y));
+    upper(s, u).wrapping_add(256) >> 9
 }

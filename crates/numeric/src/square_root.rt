@@ -35,15 +35,9 @@ fn parts(b: u64) -> Scaled
         };
     }
     let e = b / HID;
-    let m = HID + b % HID;
-    if e % 2 == 0 {
-        return Scaled {
-            m: m * 2,
-            j: (e + 1018) / 2,
-        };
-    }
+    let n = HID + b % HID;
     Scaled {
-        m,
+        m: if e % 2 == 0 { n * 2 } else { n },
         j: (e + 1019) / 2,
     }
 }
@@ -57,11 +51,13 @@ fn nearest(m: u64) -> u64
     if is_nearest(m, q) {
         return q;
     }
-    if is_nearest(m, q + 1) {
-        return q + 1;
+    let above = q.wrapping_add(1);
+    if is_nearest(m, above) {
+        return above;
     }
-    if is_nearest(m, q - 1) {
-        return q - 1;
+    let below = q.wrapping_sub(1);
+    if is_nearest(m, below) {
+        return below;
     }
     (digits(m, 54) + 1) / 2
 }
