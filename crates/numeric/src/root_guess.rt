@@ -1,16 +1,16 @@
-// A guess of a root in whole numbers, which no proof relies on: a straight line for the inverse root, and Newton's steps.
+// A guess of a root in whole numbers, which no proof relies on: the inverse root from a table of straight lines, then two of Newton's steps.
 // That m lies in its range is a clause and no invariant: square_root makes m at one place, and a type for it would be named by four crates.
 #![tactic(auto)]
 
 ghost use Rattle.std.specs.Prelude.{◌*◌, ◌^◌, ◌≤◌, ◌<◌};
 
-// A piece is 2^47, the 32nd part of 2^52. In piece i, from 2^52 on, the inverse root of m / 2^52 is near START[i] / 2^16 at first and falls by
-// SLOPE[i] / 2^22.
+// The table's pieces begin at 2^52 and are so long each.
 const PIECE: u64 = 1 << 47;
 
-// Three, of 2^30.
+// 3, in parts of 2^30
 const THREE: u64 = 3 << 30;
 
+// The inverse root of m / 2^52 where a piece begins, in parts of 2^16.
 static START: [u16; 96] = [
     65533, 64533, 63577, 62662, 61786, 60945, 60138, 59362, 58616, 57896, 57203, 56534, 55888,
     55264, 54660, 54075, 53509, 52960, 52428, 51911, 51410, 50923, 50449, 49988, 49540, 49103,
@@ -22,6 +22,7 @@ static START: [u16; 96] = [
     33427, 33292, 33159, 33027, 32897,
 ];
 
+// How far it falls in the piece, in parts of 2^22.
 static SLOPE: [u16; 96] = [
     64039, 61192, 58551, 56094, 53804, 51666, 49666, 47792, 46032, 44378, 42821, 41353, 39967,
     38656, 37416, 36241, 35125, 34066, 33059, 32101, 31188, 30318, 29487, 28694, 27935, 27210,
@@ -33,7 +34,7 @@ static SLOPE: [u16; 96] = [
     8438, 8338, 8240,
 ];
 
-// The inverse root of m / 2^52 in parts of 2^32, with 14 good bits.
+// The inverse root of m / 2^52 in parts of 2^32, with 14 good binary digits.
 fn line(m: u64) -> u64
     requires { (2 ^ 52 ≤ m) × (m < 2 ^ 54) }
 {
@@ -47,7 +48,7 @@ fn upper(a: u64, b: u64) -> u64 {
     ((u128::from(a) * u128::from(b)) >> 64) as u64
 }
 
-// A number that should be the whole one nearest to the root of m * 2^52.
+// A whole number that should be the nearest to the root of m * 2^52: a step doubles the good digits, the first in 32 and the last in 64.
 pub fn guess(m: u64) -> u64
     requires { (2 ^ 52 ≤ m) × (m < 2 ^ 54) }
     ensures { result < 2 ^ 55 }

@@ -1,4 +1,4 @@
-// The root of a number above zero, from its bit pattern: a guess by Newton's steps, which no proof relies on, and an exact test of it.
+// The root of a number above zero, from its bit pattern: a guess, which no proof relies on, and an exact test of it.
 // That m lies in its range is a clause and no invariant: `parts` makes it at one place, and a type for it would be named by four crates.
 #![tactic(auto)]
 
@@ -51,9 +51,8 @@ fn nearest(m: u64) -> u64
     if is_nearest(m, q) {
         return q;
     }
-    let above = q.wrapping_add(1);
-    if is_nearest(m, above) {
-        return above;
+    if is_nearest(m, q + 1) {
+        return q + 1;
     }
     let below = q.wrapping_sub(1);
     if is_nearest(m, below) {

@@ -1,5 +1,5 @@
 -- `numeric::sqrt` meets its contract. Assumes nothing.
-use Rattle.std.proofs.Common.{◌≡◌, refl, sym, ap, ◌∙◌, subst, ◌≤◌, ◌<◌, arith}
+use Rattle.std.proofs.Common.{◌≡◌, refl, sym, ap, ◌∙◌, subst, arith}
 use Rattle.std.proofs.Math.Dec.{T, leb, le→leb}
 use Rattle.std.specs.Float.Ieee.{nan, binary64, eq, of_bits, to_bits}
 use lib.Ieee.Bits.{is_true, of_bits-to_bits}
