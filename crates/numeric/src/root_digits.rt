@@ -1,11 +1,11 @@
 // The whole part of a root, digit by digit.
-// That m lies in its range is a clause and no invariant: square_root makes m at one place, and a type for it would be named by four crates.
+// That m lies in its range is a clause and no invariant: square_root makes m at one place, and a type for it would be named in four files.
 #![tactic(auto)]
 
 ghost use Rattle.std.specs.Prelude.{◌*◌, ◌/◌, ◌^◌, ◌≤◌, ◌<◌};
 ghost use Rattle.ieee.specs.Squares.{IsRoot};
 
-// 2^52, the weight of the exponent's field. It stands in each crate of the root: shared, the one would be built on another for this line.
+// 2^52, the weight of the exponent's field. Each file of the root has its own.
 const HID: u64 = 1 << 52;
 
 // The whole part of the root of m * 4^turns / 2^54, a digit a turn. q * q + rem is what has been taken of it.

@@ -1,5 +1,5 @@
 // A guess of a root in whole numbers, which no proof relies on: the inverse root from a table of straight lines, then two of Newton's steps.
-// That m lies in its range is a clause and no invariant: square_root makes m at one place, and a type for it would be named by four crates.
+// That m lies in its range is a clause and no invariant: square_root makes m at one place, and a type for it would be named in four files.
 #![tactic(auto)]
 
 ghost use Rattle.std.specs.Prelude.{◌*◌, ◌^◌, ◌≤◌, ◌<◌};

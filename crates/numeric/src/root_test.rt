@@ -1,5 +1,5 @@
 // The exact test of a root: whether a whole number is the nearest to it.
-// That m lies in its range is a clause and no invariant: square_root makes m at one place, and a type for it would be named by four crates.
+// That m lies in its range is a clause and no invariant: square_root makes m at one place, and a type for it would be named in four files.
 #![tactic(auto)]
 
 ghost use Rattle.std.specs.Prelude.{◌≡◌, true, false, ◌*◌, ◌^◌, ◌<◌};

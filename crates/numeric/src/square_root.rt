@@ -1,5 +1,5 @@
 // The root of a number above zero, from its bit pattern: a guess, which no proof relies on, and an exact test of it.
-// That m lies in its range is a clause and no invariant: `parts` makes it at one place, and a type for it would be named by four crates.
+// That m lies in its range is a clause and no invariant: `parts` makes it at one place, and a type for it would be named in four files.
 #![tactic(auto)]
 
 ghost use Rattle.std.specs.Prelude.{◌≡◌, not, ◌*◌, ◌^◌, ◌≤◌, ◌<◌, T};
@@ -13,7 +13,7 @@ use crate::root_digits::digits;
 use crate::root_guess::guess;
 use crate::root_test::is_nearest;
 
-// 2^52, the weight of the exponent's field. It stands in each crate of the root: shared, the one would be built on another for this line.
+// 2^52, the weight of the exponent's field. Each file of the root has its own.
 const HID: u64 = 1 << 52;
 
 #[derive(Drop)]
