@@ -46,6 +46,7 @@ impl AlmSettings {
 
 // The running numbers: c, the AKKT tolerance of the inner solve, the infeasibilities of the iteration before and of this one, the norm
 // of the last solve.
+#[repr(C)]
 #[derive(Clone, Copy)]
 pub struct AlmNumbers {
     pub penalty: f64,

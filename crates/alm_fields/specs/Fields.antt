@@ -1,0 +1,100 @@
+-- What the fields of a loop stand for, and what C is to see of what the machine leaves. Definitions only.
+use Rattle.std.specs.Prelude.{ℕ, List, [], ◌∷◌, Float, get_or}
+use Rattle.machine.specs.Told.{asked, ended, refused, failed}
+use Rattle.machine.specs.Numbers.{outcome_number, told_number, table_number, flag_of}
+use Rattle.machine.specs.LoopNumbers.{question_number, end_number, phase_number}
+use Rattle.machine.specs.LoopRun as L
+use Rattle.panoc_fields.specs.declared.fields.InnerFields.{InnerFields}
+use Rattle.panoc_fields.specs.Fields.{solve_at, status_at}
+use Rattle.alm_engine.specs.declared.alm_cache.Alm.{Alm}
+use Rattle.alm_engine.specs.declared.alm_cache.AlmSettings.{AlmSettings}
+use Rattle.alm_engine.specs.declared.alm_cache.AlmPhase.{AlmPhase}
+use Rattle.alm_engine.specs.declared.alm_cache.AlmPhase.TheVariants as P
+use Rattle.alm_engine.specs.LoopRuns.{loop_run}
+use Rattle.alm_fields.specs.declared.fields.AlmEnd.{AlmEnd}
+use Rattle.alm_fields.specs.declared.fields.AlmFields.{AlmFields}
+
+-- ---- what comes in
+
+-- a number of no phase is of a run that has ended
+abbrev pub phases : List AlmPhase
+phases = P.Over ∷ P.Time ∷ P.ProjectY ∷ P.Inner ∷ P.F1 ∷ P.ProjectC ∷ P.F2 ∷ P.LastCost ∷ []
+
+abbrev pub phase_at : ℕ → AlmPhase
+phase_at m = get_or phases m P.Over
+
+-- ---- the run
+
+-- what a start was given
+abbrev pub settings_at : AlmFields → AlmSettings
+settings_at a =
+    record {
+      n = a.n;
+      n1 = a.n1;
+      n2 = a.n2;
+      has_set_y = flag_of a.has_set_y;
+      max_inner_iterations = a.max_inner_iterations;
+      max_outer_iterations = a.max_outer_iterations;
+      limited = flag_of a.limited;
+      tolerance = a.tolerance;
+      epsilon_tolerance = a.epsilon_tolerance;
+      delta_tolerance = a.delta_tolerance;
+      initial_inner_tolerance = a.initial_inner_tolerance;
+      penalty_update_factor = a.penalty_update_factor;
+      epsilon_update_factor = a.epsilon_update_factor;
+      sufficient_decrease_coeff = a.sufficient_decrease_coeff;
+    }
+
+-- its small part
+abbrev pub alm_at : InnerFields → AlmFields → Alm
+alm_at i a =
+    record {
+      phase = phase_at a.phase;
+      set = settings_at a;
+      numbers = a.numbers;
+      counts = record { left = a.left; outer = record { 0 = a.outer }; inner = record { 0 = a.inner }; found = record { 0 = a.found }; status = status_at a.status };
+      solve = solve_at i;
+    }
+
+abbrev pub loop_run_at : InnerFields → AlmFields → List Float → L.Run
+loop_run_at i a l = loop_run (alm_at i a) l
+
+-- ---- what C sees of a call: the table's number, what is told and the phase of the loop in exact numbers, the numbers of an end, and the run that stands for all the rest
+pub record Seen : Type 0 where
+  pub number : ℕ
+  pub outcome : ℕ
+  pub told : ℕ
+  pub phase : ℕ
+  pub end : AlmEnd
+  pub run : L.Run
+
+abbrev pub seen : ℕ → InnerFields → AlmFields → List Float → Seen
+seen r i a l = record { number = r; outcome = i.outcome; told = i.told; phase = a.phase; end = a.end; run = loop_run_at i a l }
+
+-- the numbers of an end, was before
+abbrev pub end_after : L.Told → AlmEnd → AlmEnd
+end_after (asked q) was = was
+end_after (ended e) was =
+    record {
+      outer_iterations = e.outer;
+      inner_iterations = e.inner;
+      norm_fpr = e.norm;
+      delta_y_norm = e.delta_y;
+      f2_norm = e.f2;
+      penalty = e.penalty;
+      cost = e.cost;
+    }
+end_after (refused k) was = was
+end_after (failed c) was = was
+
+-- what it is to see of what the machine leaves
+abbrev pub exact : L.Left → AlmEnd → Seen
+exact l was =
+    record {
+      number = table_number l.told;
+      outcome = outcome_number l.told;
+      told = told_number question_number end_number l.told;
+      phase = phase_number l.run.phase;
+      end = end_after l.told was;
+      run = l.run;
+    }
