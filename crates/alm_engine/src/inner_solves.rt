@@ -13,7 +13,7 @@ use panoc_engine::panoc_cache::{Outcome, SolverStatus};
 
 // An inner solve has come to its end: its end, iterations and norm are kept, and F1 is next.
 #[tactic(auto, using(crate::proofs::Carried::solved_is))]
-fn on_solved(e: SolverStatus, s: Alm, board: &mut [f64]) -> Weighed
+pub fn on_solved(e: SolverStatus, s: Alm, board: &mut [f64]) -> Weighed
     requires { (Stands s board.old) × (e.iterations.0 ≤ 10000) }
     ensures { weighed s result board.new ≡ ask_f1 binary64 (solved (numbers_of e) (loop_run s board.old)) }
 {

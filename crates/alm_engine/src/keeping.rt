@@ -10,7 +10,7 @@ use crate::alm_cache::{
 use panoc_engine::panoc_cache::{Counts, ExitStatus, InnerIterations, Phase, Question};
 
 // The question of a phase; of an inner solve the first one.
-fn question_at(p: AlmPhase) -> AlmQuestion
+pub fn question_at(p: AlmPhase) -> AlmQuestion
     ensures { loop_asked_of result ≡ loop_asked_at p }
 {
     match p {

@@ -1,15 +1,18 @@
 -- What the fields of a loop stand for, and what C is to see of what the machine leaves. Definitions only.
 use Rattle.std.specs.Prelude.{ℕ, List, [], ◌∷◌, Float, get_or}
 use Rattle.machine.specs.Told.{asked, ended, refused, failed}
-use Rattle.machine.specs.Numbers.{outcome_number, told_number, table_number, flag_of}
+use Rattle.machine.specs.Numbers.{outcome_number, told_number, table_number, flag_of, status_number}
 use Rattle.machine.specs.LoopNumbers.{question_number, end_number, phase_number}
 use Rattle.machine.specs.LoopRun as L
+use Rattle.panoc_engine.specs.Values.{status_of}
 use Rattle.panoc_fields.specs.declared.fields.InnerFields.{InnerFields}
 use Rattle.panoc_fields.specs.Fields.{solve_at, status_at}
 use Rattle.alm_engine.specs.declared.alm_cache.Alm.{Alm}
 use Rattle.alm_engine.specs.declared.alm_cache.AlmSettings.{AlmSettings}
 use Rattle.alm_engine.specs.declared.alm_cache.AlmPhase.{AlmPhase}
 use Rattle.alm_engine.specs.declared.alm_cache.AlmPhase.TheVariants as P
+use Rattle.alm_engine.specs.declared.alm_cache.AlmCounts.{AlmCounts}
+use Rattle.alm_engine.specs.Values.{loop_phase_of}
 use Rattle.alm_engine.specs.LoopRuns.{loop_run}
 use Rattle.alm_fields.specs.declared.fields.AlmEnd.{AlmEnd}
 use Rattle.alm_fields.specs.declared.fields.AlmFields.{AlmFields}
@@ -98,3 +101,16 @@ exact l was =
       end = end_after l.told was;
       run = l.run;
     }
+
+-- ---- what is put into the fields
+
+-- what a call tells, its kind and the number beside it; and the phase
+abbrev pub saying : ℕ → ℕ → InnerFields → InnerFields
+saying outcome told was = record was { outcome = outcome; told = told }
+
+abbrev pub going : AlmPhase → AlmFields → AlmFields
+going p was = record was { phase = phase_number (loop_phase_of p) }
+
+-- the counts, the end among them
+abbrev pub counting : AlmCounts → AlmFields → AlmFields
+counting c was = record was { left = c.left; outer = c.outer.0; inner = c.inner.0; found = c.found.0; status = status_number (status_of c.status) }

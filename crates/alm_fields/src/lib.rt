@@ -3,4 +3,5 @@
 #![tactic(auto)]
 
 pub mod fields;
+pub mod keeping;
 pub mod numbers;
