@@ -14,12 +14,7 @@ use Rattle.machine.specs.LoopRest.{Sound}
 use Rattle.machine.proofs.LoopLaws.{counts_n, sound_ready}
 use Rattle.machine.proofs.InnerAnswers.{answered_goes}
 use Rattle.panoc_engine.specs.declared.panoc_cache.Solve.{Solve}
-use Rattle.panoc_engine.specs.declared.panoc_cache.Question.{Question}
-use Rattle.panoc_engine.specs.declared.panoc_cache.SolverStatus.{SolverStatus}
-use Rattle.panoc_engine.specs.declared.outcome.Outcome.{Outcome}
-use Rattle.panoc_engine.specs.declared.outcome.Stepped.{Stepped}
-use Rattle.panoc_engine.specs.Values.{told_of}
-use Rattle.panoc_engine.specs.Runs.{run_of, stepped}
+use Rattle.panoc_engine.specs.Runs.{run_of}
 use Rattle.alm_engine.specs.declared.alm_cache.Alm.{Alm}
 use Rattle.alm_engine.specs.declared.alm_cache.AlmPhase.TheVariants as P
 use Rattle.alm_engine.specs.LoopBoard.{loop_board_of}
@@ -67,23 +62,24 @@ module _ (s : Alm) (l : List Float) (a : Reply) where
   pub inner_accepted : (vs : ℕ) → s.phase ≡ P.Inner → answer_refusal (wanted_by (loop_run s l)) a vs true ≡ 0 → answer_refusal (Inner.wanted_by (run_of s.solve (take 576 l))) a vs true ≡ 0
   inner_accepted vs e z = ap (λ (r : InnerRun.Run). answer_refusal (Inner.wanted_by r) a vs true) (sym (solve_is (inner_same vs e z))) ∙ (inner_sound vs e z).1
 
-  module _ (v m : List Float) (r : Stepped (Outcome Question SolverStatus) Solve) (p : 768 ≤ length l) (e : s.phase ≡ P.Inner) (z : answer_refusal (wanted_by (loop_run s l)) a (length v) true ≡ 0)
-      (w : stepped r m ≡ Inner.answered binary64 (run_of s.solve (take 576 l)) a v) where
+  -- x is what its small part has become, t what it has told, m its board
+  module _ (v m : List Float) (vs : ℕ) (t : InnerRun.Told) (x : Solve) (p : 768 ≤ length l) (e : s.phase ≡ P.Inner) (z : answer_refusal (wanted_by (loop_run s l)) a vs true ≡ 0)
+      (w : (let y : InnerRun.Left = record { told = t; run = run_of x m } in y) ≡ Inner.answered binary64 (run_of s.solve (take 576 l)) a v) where
     -- that n stays, and its steps are counted
-    same_n : r.state.set.n ≡ s.solve.set.n
+    same_n : x.set.n ≡ s.solve.set.n
     unfolding run_of
     same_n =
-        let g = answered_goes binary64 (run_of s.solve (take 576 l)) a v (length v) true (inner_accepted (length v) e z) in
+        let g = answered_goes binary64 (run_of s.solve (take 576 l)) a v vs true (inner_accepted vs e z) in
         ap (λ (t : Settings). t.n) (ap (λ (t : InnerRun.Left). t.run.set) w ∙ g.comes.settings)
 
-    pub inner_counted : Counted (told_of r.outcome)
+    pub inner_counted : Counted t
     inner_counted =
-        let g = answered_goes binary64 (run_of s.solve (take 576 l)) a v (length v) true (inner_accepted (length v) e z) in
+        let g = answered_goes binary64 (run_of s.solve (take 576 l)) a v vs true (inner_accepted vs e z) in
         subst (λ (t : InnerRun.Left). Counted t.told) (sym w) g.counted
 
-    pub inner_stands : length m ≡ length (take 576 l) → Stands (record s { solve = r.state }) (m ++ drop 576 l)
+    pub inner_stands : length m ≡ length (take 576 l) → Stands (record s { solve = x }) (m ++ drop 576 l)
     inner_stands k =
-        let h = stands_at s l p (accepts_at s l a (length v) z P.Inner e).0 (rw e refl) in
+        let h = stands_at s l p (accepts_at s l a vs z P.Inner e).0 (rw e refl) in
         record {
           size = h.size;
           size_y = h.size_y;
@@ -96,11 +92,11 @@ module _ (s : Alm) (l : List Float) (a : Reply) where
 
     inner_at : Move.inner binary64 (Inner.answered binary64 (run_of s.solve (take 576 l)) a v) (loop_run s l) ≡ answered_at binary64 (loop_run s l) L.Phase.inner a v
     unfolding answered_at
-    inner_at = ap (λ (t : InnerRun.Run). Move.inner binary64 (Inner.answered binary64 t a v) (loop_run s l)) (sym (solve_is (inner_same (length v) e z)))
+    inner_at = ap (λ (t : InnerRun.Run). Move.inner binary64 (Inner.answered binary64 t a v) (loop_run s l)) (sym (solve_is (inner_same vs e z)))
 
-    pub inner_carried : length m ≡ length (take 576 l) → Move.carried binary64 (told_of r.outcome) (loop_run (record s { solve = r.state }) (m ++ drop 576 l)) ≡ answered binary64 (loop_run s l) a v
+    pub inner_carried : length m ≡ length (take 576 l) → Move.carried binary64 t (loop_run (record s { solve = x }) (m ++ drop 576 l)) ≡ answered binary64 (loop_run s l) a v
     inner_carried k =
-        ap (Move.carried binary64 (told_of r.outcome)) (lent_left l p m k s r.state (same_n ∙ inner_same (length v) e z))
+        ap (Move.carried binary64 t) (lent_left l p m k s x (same_n ∙ inner_same vs e z))
         ∙ ap (λ (t : InnerRun.Left). Move.inner binary64 t (loop_run s l)) w
         ∙ inner_at
         ∙ sym (at_phase s l a v P.Inner e)
