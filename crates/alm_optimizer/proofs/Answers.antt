@@ -10,7 +10,7 @@ use Rattle.model.specs.Refusals.{answer_refusal, fits_kind, fits_length, xi_leng
 use Rattle.model.proofs.Facts.{and_left, and_right}
 use Rattle.board.specs.Board.{vector, board_of}
 use Rattle.machine.specs.Told as Say
-use Rattle.machine.specs.LoopRun.{Left}
+use Rattle.machine.specs.LoopRun.{Told, Left}
 use Rattle.machine.specs.Waits.{unless_refused}
 use Rattle.machine.specs.LoopRest.{Sound}
 use Rattle.machine.specs.LoopCalls.{lent_right}
@@ -18,17 +18,13 @@ use Rattle.machine.specs.LoopAnswer as Answer
 use Rattle.machine.proofs.LoopLaws.{sized_n, sized_n1, sound_sized}
 use Rattle.machine.proofs.LoopAnswers.{accepted_at, answered_takes}
 use Rattle.panoc_engine.specs.declared.panoc_cache.Reply.{Reply}
-use Rattle.panoc_engine.specs.declared.outcome.Outcome.{Outcome}
-use Rattle.panoc_engine.specs.declared.outcome.Stepped.{Stepped}
 use Rattle.panoc_engine.specs.declared.outcome.Refusal.{Refusal}
 use Rattle.panoc_engine.specs.Told.{refusal_number}
 use Rattle.panoc_engine.specs.Values.{reply_of}
 use Rattle.alm_engine.specs.declared.alm_cache.Alm.{Alm}
-use Rattle.alm_engine.specs.declared.alm_cache.AlmQuestion.{AlmQuestion}
-use Rattle.alm_engine.specs.declared.alm_cache.AlmOptimizerStatus.{AlmOptimizerStatus}
-use Rattle.alm_engine.specs.Values.{loop_settings_of, loop_told_of}
+use Rattle.alm_engine.specs.Values.{loop_settings_of}
 use Rattle.alm_engine.specs.LoopBoard.{loop_board_of}
-use Rattle.alm_engine.specs.LoopRuns.{loop_run, loop_stepped}
+use Rattle.alm_engine.specs.LoopRuns.{loop_run}
 use Rattle.alm_engine.proofs.LoopHeld.{inner_vector}
 use Rattle.alm_optimizer.specs.Calls.{xi_filled}
 use Rattle.panoc_engine.proofs.Numbers.{refusal_some}
@@ -129,27 +125,27 @@ module _ (s : Alm) (l : List Float) (a : Reply) (v us xs : List Float) where
     unfolding Answer.answer
     answer_goes = let z = sym n in rw z refl
 
-    module _ (r : Stepped (Outcome AlmQuestion AlmOptimizerStatus) Alm) (l' : List Float) (e : loop_stepped r l' ≡ Answer.answered binary64 (loop_run s l) (reply_of a) v) where
-      settings : loop_settings_of r.state.set ≡ loop_settings_of s.set
+    -- t is what the run has told, y its small part and l' its board
+    module _ (t : Told) (y : Alm) (l' : List Float) (e : (let z : Left = record { told = t; run = loop_run y l' } in z) ≡ Answer.answered binary64 (loop_run s l) (reply_of a) v) where
+      settings : loop_settings_of y.set ≡ loop_settings_of s.set
       unfolding loop_run
       settings = ap (λ (x : Left). x.run.set) e ∙ (answered_takes binary64 (loop_run s l) (reply_of a) v (length v) true accepted_places).settings
 
-      plan_here : 576 ≤ length l' → vector 0 (length us) l' ≡ (loop_stepped r l').run.solve.state.at.u
+      plan_here : 576 ≤ length l' → vector 0 (length us) l' ≡ (loop_run y l').solve.state.at.u
       unfolding loop_run loop_board_of board_of
       plan_here p =
-          let z : r.state.set.n ≡ s.set.n = ap (λ (x : LoopSettings). x.n) settings in
-          let m : r.state.set.n ≤ 64 = let h = size_n in omega (arith, z) in
-          ap (λ (k : ℕ). vector 0 k l') (size_us ∙ sym z) ∙ sym (inner_vector l' p 0 r.state.set.n (omega arith) m)
+          let z : y.set.n ≡ s.set.n = ap (λ (x : LoopSettings). x.n) settings in
+          let m : y.set.n ≤ 64 = let h = size_n in omega (arith, z) in
+          ap (λ (k : ℕ). vector 0 k l') (size_us ∙ sym z) ∙ sym (inner_vector l' p 0 y.set.n (omega arith) m)
 
-      pub plan_given : 576 ≤ length l' → Say.given (loop_told_of r.outcome) (vector 0 (length us) l') us ≡ Answer.plan_after left us
-      plan_given p = ap (λ (x : List Float). Say.given (loop_told_of r.outcome) x us) (plan_here p) ∙ ap (λ (x : Left). Answer.plan_after x us) (e ∙ answer_goes)
+      pub plan_given : 576 ≤ length l' → Say.given t (vector 0 (length us) l') us ≡ Answer.plan_after left us
+      plan_given p = ap (λ (x : List Float). Say.given t x us) (plan_here p) ∙ ap (λ (x : Left). Answer.plan_after x us) (e ∙ answer_goes)
 
-      xi_here : xi_filled 10 r.state.numbers.penalty l' xs
-          ≡ xi_of (loop_stepped r l').run.set (penalty_of (loop_stepped r l').run.set (loop_stepped r l').run.c) (loop_stepped r l').run.y_plus
+      xi_here : xi_filled 10 y.numbers.penalty l' xs ≡ xi_of (loop_run y l').set (penalty_of (loop_run y l').set (loop_run y l').c) (loop_run y l').y_plus
       unfolding loop_run loop_board_of
       xi_here =
-          let z : length xs ≡ xi_length r.state.set.n1 r.state.set.n2 = size_xs ∙ ap (λ (x : LoopSettings). xi_length x.n1 x.n2) (sym settings) in
-          filled_is (loop_settings_of r.state.set) r.state.numbers.penalty l' xs z
+          let z : length xs ≡ xi_length y.set.n1 y.set.n2 = size_xs ∙ ap (λ (x : LoopSettings). xi_length x.n1 x.n2) (sym settings) in
+          filled_is (loop_settings_of y.set) y.numbers.penalty l' xs z
 
-      pub xi_given : Say.given (loop_told_of r.outcome) (xi_filled 10 r.state.numbers.penalty l' xs) xs ≡ Answer.xi_after left xs
-      xi_given = ap (λ (x : List Float). Say.given (loop_told_of r.outcome) x xs) xi_here ∙ ap (λ (x : Left). Answer.xi_after x xs) (e ∙ answer_goes)
+      pub xi_given : Say.given t (xi_filled 10 y.numbers.penalty l' xs) xs ≡ Answer.xi_after left xs
+      xi_given = ap (λ (x : List Float). Say.given t x xs) xi_here ∙ ap (λ (x : Left). Answer.xi_after x xs) (e ∙ answer_goes)

@@ -39,7 +39,7 @@ fn is_counted(s: Alm) -> bool
 }
 
 // Whether no iteration follows: the last question has none before it.
-fn is_last(phase: AlmPhase) -> bool
+pub fn is_last(phase: AlmPhase) -> bool
     ensures { result ≡ is_last (loop_phase_of phase) }
 {
     matches!(phase, AlmPhase::Over | AlmPhase::LastCost)
@@ -54,7 +54,7 @@ pub fn is_sound(s: Alm) -> bool
 }
 
 // At a phase of the loop's own.
-fn wants_own(set: AlmSettings, phase: AlmPhase) -> Option<Wanted>
+pub fn wants_own(set: AlmSettings, phase: AlmPhase) -> Option<Wanted>
     ensures { kind_of result ≡ own_at (loop_settings_of set) (loop_phase_of phase) }
 {
     match phase {
