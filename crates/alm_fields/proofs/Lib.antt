@@ -1,2 +1,4 @@
 pub mod NumberLaws
 pub mod Kept
+pub mod Carried
+pub mod Arms

@@ -1,5 +1,5 @@
 -- Numbers past those that are named, and numbers that come in as they went out. Assumes nothing.
-use Rattle.std.proofs.Common.{◌≡◌, refl, sym, ℕ, ◌≤◌}
+use Rattle.std.proofs.Common.{◌≡◌, refl, sym, ap, ◌∙◌, ℕ, zero, suc, ◌≤◌, arith}
 use Rattle.std.proofs.Math.ListN.{get_or-eq_default}
 use Rattle.machine.specs.LoopNumbers.{phase_number}
 use Rattle.alm_engine.specs.declared.alm_cache.AlmPhase.{AlmPhase}
@@ -19,3 +19,18 @@ phase_back P.F1 = refl
 phase_back P.ProjectC = refl
 phase_back P.F2 = refl
 phase_back P.LastCost = refl
+
+abbrev number : AlmPhase → ℕ
+number p = phase_number (loop_phase_of p)
+
+-- 3 alone is of the inner solve
+pub inner_is : (m : ℕ) → phase_at m ≡ P.Inner → m ≡ 3
+inner_is zero e = absurd (let z = ap number e in omega (arith, z))
+inner_is (suc zero) e = absurd (let z = ap number e in omega (arith, z))
+inner_is (suc (suc zero)) e = absurd (let z = ap number e in omega (arith, z))
+inner_is (suc (suc (suc zero))) e = refl
+inner_is (suc (suc (suc (suc zero)))) e = absurd (let z = ap number e in omega (arith, z))
+inner_is (suc (suc (suc (suc (suc zero))))) e = absurd (let z = ap number e in omega (arith, z))
+inner_is (suc (suc (suc (suc (suc (suc zero)))))) e = absurd (let z = ap number e in omega (arith, z))
+inner_is (suc (suc (suc (suc (suc (suc (suc zero))))))) e = absurd (let z = ap number e in omega (arith, z))
+inner_is (suc (suc (suc (suc (suc (suc (suc (suc m)))))))) e = let h : 8 ≤ suc (suc (suc (suc (suc (suc (suc (suc m))))))) = omega arith in absurd (let z = ap number (phase_past _ h ∙ e) in omega (arith, z))

@@ -1,12 +1,16 @@
 -- What the fields of a loop stand for, and what C is to see of what the machine leaves. Definitions only.
-use Rattle.std.specs.Prelude.{ℕ, List, [], ◌∷◌, Float, get_or}
+use Rattle.std.specs.Prelude.{ℕ, ◌≡◌, List, [], ◌∷◌, Float, get_or}
 use Rattle.machine.specs.Told.{asked, ended, refused, failed}
 use Rattle.machine.specs.Numbers.{outcome_number, told_number, table_number, flag_of, status_number}
+use Rattle.machine.specs.Numbers.{question_number as inner_question_number, end_number as inner_end_number}
+use Rattle.machine.specs.InnerRun as M
 use Rattle.machine.specs.LoopNumbers.{question_number, end_number, phase_number}
 use Rattle.machine.specs.LoopRun as L
+use Rattle.panoc_engine.specs.declared.panoc_cache.SolverStatus.{SolverStatus}
 use Rattle.panoc_engine.specs.Values.{status_of}
+use Rattle.panoc_fields.specs.declared.fields.InnerEnd.{InnerEnd}
 use Rattle.panoc_fields.specs.declared.fields.InnerFields.{InnerFields}
-use Rattle.panoc_fields.specs.Fields.{solve_at, status_at}
+use Rattle.panoc_fields.specs.Fields.{solve_at, status_at, end_after as inner_end_after}
 use Rattle.alm_engine.specs.declared.alm_cache.Alm.{Alm}
 use Rattle.alm_engine.specs.declared.alm_cache.AlmSettings.{AlmSettings}
 use Rattle.alm_engine.specs.declared.alm_cache.AlmPhase.{AlmPhase}
@@ -114,3 +118,16 @@ going p was = record was { phase = phase_number (loop_phase_of p) }
 -- the counts, the end among them
 abbrev pub counting : AlmCounts → AlmFields → AlmFields
 counting c was = record was { left = c.left; outer = c.outer.0; inner = c.inner.0; found = c.found.0; status = status_number (status_of c.status) }
+
+-- ---- what an inner solve tells, carried on
+
+-- an end as it tells it
+abbrev pub solver_status_at : InnerFields → SolverStatus
+solver_status_at i = record { exit_status = status_at i.told; iterations = record { 0 = i.end.iterations }; norm_fpr = i.end.norm_fpr; cost_value = i.end.cost_value }
+
+-- r and the fields are what C is to see of t, was being the numbers of an end before
+pub record Tells (t : M.Told) (r : ℕ) (was : InnerEnd) (is : InnerFields) : Type 0 where
+  pub number : r ≡ table_number t
+  pub outcome : is.outcome ≡ outcome_number t
+  pub told : is.told ≡ told_number inner_question_number inner_end_number t
+  pub end : is.end ≡ inner_end_after t was

@@ -2,6 +2,7 @@
 // call tells stands in the inner solve's fields, for the loop too: a question of the inner solve is then told as that has told it.
 #![tactic(auto)]
 
+pub mod answering;
 pub mod fields;
 pub mod keeping;
 pub mod numbers;
