@@ -1,5 +1,12 @@
 -- What the fields of a loop stand for, and what C is to see of what the machine leaves. Definitions only.
-use Rattle.std.specs.Prelude.{ℕ, ◌≡◌, List, [], ◌∷◌, Float, get_or}
+use Rattle.std.specs.Prelude.{ℕ, suc, ◌≡◌, cond, List, [], ◌∷◌, Float, length, eqb, get_or}
+use Rattle.std.proofs.Math.Option.{Option}
+use Rattle.std.specs.Float.{binary64}
+use Rattle.model.specs.Refusals.{Reply}
+use Rattle.board.specs.Board.{vector, U, Y_PLUS}
+use Rattle.machine.specs.Waits.{any_refusal}
+use Rattle.machine.specs.LoopCalls.{lent_right}
+use Rattle.machine.specs.LoopAnswer.{wanted_by, plan_after, xi_after, answer_any}
 use Rattle.machine.specs.Told.{asked, ended, refused, failed}
 use Rattle.machine.specs.Numbers.{outcome_number, told_number, table_number, flag_of, status_number}
 use Rattle.machine.specs.Numbers.{question_number as inner_question_number, end_number as inner_end_number}
@@ -16,10 +23,12 @@ use Rattle.alm_engine.specs.declared.alm_cache.AlmSettings.{AlmSettings}
 use Rattle.alm_engine.specs.declared.alm_cache.AlmPhase.{AlmPhase}
 use Rattle.alm_engine.specs.declared.alm_cache.AlmPhase.TheVariants as P
 use Rattle.alm_engine.specs.declared.alm_cache.AlmCounts.{AlmCounts}
-use Rattle.alm_engine.specs.Values.{loop_phase_of}
+use Rattle.alm_engine.specs.Values.{loop_settings_of, loop_phase_of}
 use Rattle.alm_engine.specs.LoopRuns.{loop_run}
+use Rattle.alm_optimizer.specs.Calls.{xi_filled}
 use Rattle.alm_fields.specs.declared.fields.AlmEnd.{AlmEnd}
 use Rattle.alm_fields.specs.declared.fields.AlmFields.{AlmFields}
+use Rattle.alm_fields.specs.declared.fields.AlmC.{AlmC}
 
 -- ---- what comes in
 
@@ -131,3 +140,26 @@ pub record Tells (t : M.Told) (r : ℕ) (was : InnerEnd) (is : InnerFields) : Ty
   pub outcome : is.outcome ≡ outcome_number t
   pub told : is.told ≡ told_number inner_question_number inner_end_number t
   pub end : is.end ≡ inner_end_after t was
+
+-- ---- the calls
+
+-- the number by which the table refuses an answer, 0 for none; vs, us and xs are the lengths of the lent slices
+abbrev pub refusal_at : AlmC → Option Reply → ℕ → ℕ → ℕ → ℕ
+refusal_at was a vs us xs = any_refusal (wanted_by (loop_run_at was.inner was.alm was.board)) a vs (lent_right (loop_settings_of (settings_at was.alm)) us xs)
+
+-- what the machine leaves; us and xs are the lent plan and xi
+abbrev pub answer_at : AlmC → Option Reply → List Float → List Float → List Float → L.Left
+answer_at was a v us xs = answer_any binary64 (loop_run_at was.inner was.alm was.board) a v us xs
+
+-- the lent plan us, where the run has just ended u; and the lent xi xs, then the penalty and y_plus
+abbrev pub handed_plan : AlmC → List Float → List Float
+handed_plan is us = cond (eqb is.inner.outcome 1) (vector U (length us) is.board) us
+
+abbrev pub handed_xi : AlmC → List Float → List Float
+handed_xi is xs = cond (eqb is.inner.outcome 1) (xi_filled Y_PLUS is.alm.numbers.penalty is.board xs) xs
+
+-- an answer: where the table refuses, its number and nothing written; else what the machine leaves. us, xs and us', xs' are the lent plan and xi before and after
+pub record Leaves (a : Option Reply) (v us us' xs xs' : List Float) (was is : AlmC) (r : ℕ) : Type 0 where
+  pub refused : (k : ℕ) → refusal_at was a (length v) (length us) (length xs) ≡ suc k → (r ≡ suc k) × (is ≡ was) × (us' ≡ us) × (xs' ≡ xs)
+  pub accepted : refusal_at was a (length v) (length us) (length xs) ≡ 0
+      → (seen r is.inner is.alm is.board ≡ exact (answer_at was a v us xs) was.alm.end) × (us' ≡ plan_after (answer_at was a v us xs) us) × (xs' ≡ xi_after (answer_at was a v us xs) xs)

@@ -3,6 +3,7 @@
 #![tactic(auto)]
 
 pub mod answering;
+pub mod calls;
 pub mod fields;
 pub mod keeping;
 pub mod numbers;

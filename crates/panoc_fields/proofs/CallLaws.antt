@@ -22,7 +22,7 @@ use Rattle.panoc_fields.specs.declared.fields.InnerC.{InnerC}
 use Rattle.panoc_fields.specs.Fields.{Seen, solve_at, run_at, seen, exact, handed, refusal_at, answer_at, Leaves}
 
 -- an answer of no kind has a number too
-strange_some : (w : Option Kind) → strange w ≡ 0 → ⊥
+pub strange_some : (w : Option Kind) → strange w ≡ 0 → ⊥
 unfolding strange
 strange_some none e = omega arith
 strange_some (some k) e = omega arith
@@ -40,7 +40,7 @@ accepted_at (some k) a vs false e = absurd (by (fits_kind k a) (fits_length k a 
     by false d w = omega arith
 
 -- the lent plan by what is told
-handed_as : {Q E : Type 0} (t : Say.Told Q E) (k : ℕ) (h us : List Float) → k ≡ outcome_number t → cond (eqb k 1) h us ≡ Say.given t h us
+pub handed_as : {Q E : Type 0} (t : Say.Told Q E) (k : ℕ) (h us : List Float) → k ≡ outcome_number t → cond (eqb k 1) h us ≡ Say.given t h us
 unfolding Say.given
 handed_as (Say.Told.asked q) k h us e = rw e refl
 handed_as (Say.Told.ended x) k h us e = rw e refl
