@@ -1,12 +1,9 @@
 -- What the calls of the loop give, as the machine has it. Definitions only.
-use Rattle.std.specs.Prelude.{ℕ, true, List, [], ◌∷◌, length, replicate, Float}
+use Rattle.std.specs.Prelude.{ℕ, List, [], ◌∷◌, length, replicate, Float}
 use Rattle.ieee.specs.Numbers.{null}
 use Rattle.board.specs.Board.{vector}
 use Rattle.machine.specs.LoopRun as L
 use Rattle.panoc_engine.specs.declared.outcome.Outcome.{Outcome}
-use Rattle.panoc_engine.specs.declared.panoc_cache.Settings.{Settings}
-use Rattle.panoc_engine.specs.declared.panoc_cache.Solve.{Solve}
-use Rattle.panoc_engine.specs.declared.panoc_cache.Phase.TheVariants.{Cost}
 use Rattle.panoc_engine.specs.declared.panoc_cache.ExitStatus.TheVariants.{Converged}
 use Rattle.panoc_engine.specs.declared.outcome.Answered.{Answered}
 use Rattle.alm_engine.specs.declared.alm_cache.AlmSettings.{AlmSettings}
@@ -15,6 +12,7 @@ use Rattle.alm_engine.specs.declared.alm_cache.Alm.{Alm}
 use Rattle.alm_engine.specs.declared.alm_cache.AlmQuestion.{AlmQuestion}
 use Rattle.alm_engine.specs.declared.alm_cache.AlmOptimizerStatus.{AlmOptimizerStatus}
 use Rattle.alm_engine.specs.declared.alm_cache.AlmRun.{AlmRun}
+use Rattle.panoc_engine.specs.Blank.{blank}
 use Rattle.alm_engine.specs.Values.{inner_given, loop_told_of}
 use Rattle.alm_engine.specs.LoopRuns.{loop_run}
 
@@ -26,20 +24,7 @@ loop_gave r = record { told = loop_told_of r.outcome; run = loop_run r.run.alm r
 unfoldable pub no_places : List Float
 no_places = replicate 768 null
 
--- the small part of a run that has not begun, and of its inner solve; their numbers are worked out later
-abbrev pub inner_blank : Settings → Solve
-inner_blank set =
-    record {
-      phase = Cost;
-      set = set;
-      cost_value = null;
-      gammas = record { lipschitz_constant = null; gamma = null; sigma = null };
-      norms = record { norm_gamma_fpr = null; best_norm_gamma_fpr = null; tau = null; rhs_ls = null };
-      norm_h = null;
-      counts = record { left = 0; iterations = record { 0 = 0 }; status = Converged; rounds = 0 };
-      forget = true;
-    }
-
+-- the small part of a run that has not begun; its numbers are worked out later
 abbrev pub loop_blank : AlmSettings → Alm
 loop_blank set =
     record {
@@ -56,7 +41,7 @@ loop_blank set =
             norm_fpr = null;
           };
       counts = record { left = 0; outer = record { 0 = 0 }; inner = record { 0 = 0 }; found = record { 0 = 0 }; status = Converged };
-      solve = inner_blank (inner_given set set.initial_inner_tolerance);
+      solve = blank (inner_given set set.initial_inner_tolerance);
     }
 
 -- the lent xi with the penalty c in its place 0, if it has one, and the first places of vector j from place 1 on

@@ -6,7 +6,7 @@ ghost use Rattle.machine.specs.LoopAnswer.{start};
 ghost use Rattle.panoc_engine.specs.Told.{number_of};
 ghost use Rattle.alm_engine.specs.Values.{loop_settings_of};
 ghost use Rattle.alm_engine.specs.LoopRuns.{loop_run, loop_stepped};
-ghost use Rattle.alm_optimizer.specs.Calls.{inner_blank, loop_blank, loop_gave, no_places};
+ghost use Rattle.alm_optimizer.specs.Calls.{loop_blank, loop_gave, no_places};
 
 use alm_engine::alm_cache::{
     Alm, AlmAnswered, AlmCounts, AlmNumbers, AlmOutcome, AlmPhase, AlmRun, AlmSettings, AlmStepped,
@@ -17,9 +17,7 @@ use alm_engine::outer_iterations::begins;
 use board::copies::{is_finite_in, take_into};
 use board::{U, Y, Y_PLUS};
 use panoc_engine::outcome::Refusal;
-use panoc_engine::panoc_cache::{
-    Counts, ExitStatus, Gammas, InnerIterations, Norms, Phase, Settings, Solve,
-};
+use panoc_engine::panoc_cache::{ExitStatus, InnerIterations};
 use starts::numbers::{factor_right, fraction_right, limit_right, tolerance_right};
 use starts::sizes::{mappings_right, sizes_right};
 
@@ -103,39 +101,7 @@ fn multipliers_in(xi: &[f64]) -> &[f64]
     }
 }
 
-// ---- the small part of a run that has not begun
-
-// That of its inner solve.
-#[tactic(auto, using(ieee::proofs::Special::zero_bits))]
-fn inner_blank(set: Settings) -> Solve
-    ensures { result ≡ inner_blank set }
-{
-    Solve {
-        phase: Phase::Cost,
-        set,
-        cost_value: 0.0,
-        gammas: Gammas {
-            lipschitz_constant: 0.0,
-            gamma: 0.0,
-            sigma: 0.0,
-        },
-        norms: Norms {
-            norm_gamma_fpr: 0.0,
-            best_norm_gamma_fpr: 0.0,
-            tau: 0.0,
-            rhs_ls: 0.0,
-        },
-        norm_h: 0.0,
-        counts: Counts {
-            left: 0,
-            iterations: InnerIterations(0),
-            status: ExitStatus::Converged,
-            rounds: 0,
-        },
-        forget: true,
-    }
-}
-
+// The small part of a run that has not begun.
 #[tactic(auto, using(ieee::proofs::Special::zero_bits))]
 fn blank(set: AlmSettings) -> Alm
     ensures { result ≡ loop_blank set }
@@ -159,7 +125,7 @@ fn blank(set: AlmSettings) -> Alm
             found: InnerIterations(0),
             status: ExitStatus::Converged,
         },
-        solve: inner_blank(set.inner(set.initial_inner_tolerance)),
+        solve: panoc_engine::first::blank(set.inner(set.initial_inner_tolerance)),
     }
 }
 

@@ -20,3 +20,4 @@ pub mod LoopNumbers
 pub mod Keeping
 pub mod Machines
 pub mod PsiNumbers
+pub mod Standing

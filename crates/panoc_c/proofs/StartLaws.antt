@@ -15,7 +15,7 @@ use Rattle.panoc_engine.specs.declared.outcome.Outcome.TheVariants as O
 use Rattle.panoc_engine.specs.Told.{refusal_number}
 use Rattle.panoc_engine.specs.Values.{settings_of}
 use Rattle.panoc_engine.specs.Runs.{run_of, leaves, moved, ended}
-use Rattle.panoc_optimizer.specs.Calls.{blank}
+use Rattle.panoc_engine.specs.Blank.{blank}
 use Rattle.panoc_optimizer.proofs.Calls.{start_stops, start_begins}
 use Rattle.panoc_fields.specs.declared.fields.InnerEnd.{InnerEnd}
 use Rattle.panoc_fields.specs.declared.fields.InnerFields.{InnerFields}

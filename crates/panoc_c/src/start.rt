@@ -1,6 +1,6 @@
 // The start.
 ghost use Rattle.std.specs.Prelude.{◌≡◌};
-ghost use Rattle.panoc_optimizer.specs.Calls.{blank};
+ghost use Rattle.panoc_engine.specs.Blank.{blank};
 ghost use Rattle.panoc_fields.specs.Fields.{solve_at};
 ghost use Rattle.panoc_c.specs.Starts.{settings_at, Begins};
 

@@ -8,3 +8,4 @@ pub mod Halves
 pub mod Answered
 pub mod Moves
 pub mod Numbers
+pub mod Asks

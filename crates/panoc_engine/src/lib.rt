@@ -5,6 +5,7 @@
 pub mod answers;
 pub mod doubling;
 pub mod estimate;
+pub mod first;
 pub mod first_move;
 pub mod half_steps;
 pub mod last_cost;
@@ -12,5 +13,6 @@ pub mod linesearch;
 pub mod lipschitz_estimator;
 pub mod outcome;
 pub mod panoc_cache;
+pub mod points;
 pub mod refusals;
 pub mod step;

@@ -31,7 +31,8 @@ use Rattle.panoc_engine.specs.Values.{settings_of, reply_of, kind_of, told_of}
 use Rattle.panoc_engine.specs.Runs.{run_of, stepped}
 use Rattle.panoc_engine.proofs.Answered.{accepted_stands}
 use Rattle.panoc_engine.proofs.Held.{holds, wrote_u}
-use Rattle.panoc_optimizer.specs.Calls.{blank, gave}
+use Rattle.panoc_engine.specs.Blank.{blank}
+use Rattle.panoc_optimizer.specs.Calls.{gave}
 use Rattle.panoc_engine.proofs.Numbers.{refusal_some}
 
 -- a refused call

@@ -1,48 +1,19 @@
 -- The points of the question that a run waits with. Assumes nothing.
 use Rattle.std.proofs.Common.{◌≡◌, refl, ap, sym, ◌∙◌, ℕ, Bool, true, false, cond, ◌&&◌, eqb, eqb-true, List, length, Float}
 use Rattle.std.proofs.Math.Option.{none, some}
-use Rattle.model.specs.Process.{Question}
 use Rattle.model.proofs.Facts.{and_left, and_right}
-use Rattle.board.specs.Firsts.{firsts}
-use Rattle.board.specs.Board.{vector, board_of, U}
+use Rattle.board.specs.Board.{vector, U}
 use Rattle.board.proofs.Writes.{length_vector}
 use Rattle.machine.specs.Shown.{Shown, shown}
 use Rattle.machine.specs.InnerRest.{sound}
 use Rattle.machine.specs.InnerCalls.{first_point, second_point}
 use Rattle.machine.specs.InnerAnswer as Answer
 use Rattle.panoc_engine.specs.declared.panoc_cache.Solve.{Solve}
-use Rattle.panoc_engine.specs.declared.panoc_cache.Phase.{Phase}
 use Rattle.panoc_engine.specs.declared.panoc_cache.Phase.TheVariants as P
 use Rattle.panoc_engine.specs.Values.{phase_of}
 use Rattle.panoc_engine.specs.Runs.{run_of}
-use Rattle.panoc_optimizer.specs.Calls.{place_of, first_places, second_places}
-
--- the question of a phase, and where its points lie
-record Asks (s : Solve) (l : List Float) (p : Phase) : Type 0 where
-  question : Question
-  is : Answer.question_at (run_of s l) (phase_of p) ≡ some question
-  first : first_point question ≡ vector (place_of p) (first_places s.set.n p) l
-  second : second_point question ≡ vector U (second_places s.set.n p) l
-
-asks : (s : Solve) (l : List Float) (p : Phase) → (p ≡ P.Over → ⊥) → Asks s l p
-unfolding run_of board_of vector firsts
-asks s l P.Over k = absurd (k refl)
-asks s l P.Cost k = record { question = _; is = refl; first = refl; second = refl }
-asks s l P.Gradient k = record { question = _; is = refl; first = refl; second = refl }
-asks s l P.Shifted k = record { question = _; is = refl; first = refl; second = refl }
-asks s l P.Project k = record { question = _; is = refl; first = refl; second = refl }
-asks s l P.HalfCost k = record { question = _; is = refl; first = refl; second = refl }
-asks s l P.DoubledProject k = record { question = _; is = refl; first = refl; second = refl }
-asks s l P.DoubledCost k = record { question = _; is = refl; first = refl; second = refl }
-asks s l P.Direction k = record { question = _; is = refl; first = refl; second = refl }
-asks s l P.FirstCost k = record { question = _; is = refl; first = refl; second = refl }
-asks s l P.FirstGradient k = record { question = _; is = refl; first = refl; second = refl }
-asks s l P.FirstProject k = record { question = _; is = refl; first = refl; second = refl }
-asks s l P.TriedCost k = record { question = _; is = refl; first = refl; second = refl }
-asks s l P.TriedGradient k = record { question = _; is = refl; first = refl; second = refl }
-asks s l P.TriedProject k = record { question = _; is = refl; first = refl; second = refl }
-asks s l P.Time k = record { question = _; is = refl; first = refl; second = refl }
-asks s l P.LastCost k = record { question = _; is = refl; first = refl; second = refl }
+use Rattle.panoc_engine.specs.Places.{place_of, first_places, second_places}
+use Rattle.panoc_engine.proofs.Asks.{asks}
 
 module _ (s : Solve) (l xs ys : List Float) where
   -- a run that no start made, or that has ended

@@ -10,16 +10,16 @@ ghost use Rattle.machine.specs.InnerAnswer.{start, answer, plan_after, points};
 ghost use Rattle.panoc_engine.specs.Told.{number_of};
 ghost use Rattle.panoc_engine.specs.Values.{akkt_of, settings_of, reply_of, told_of};
 ghost use Rattle.panoc_engine.specs.Runs.{run_of};
-ghost use Rattle.panoc_optimizer.specs.Calls.{blank, gave, no_places, place_of, first_places, second_places, shows};
+ghost use Rattle.panoc_engine.specs.Blank.{blank};
+ghost use Rattle.panoc_optimizer.specs.Calls.{gave, no_places, shows};
 
 use board::copies::{give, is_finite_in, take_into};
-use board::{BEST, FPR, HALF, PLUS, STEP, U};
+use board::{BEST, U};
 use panoc_engine::answers::{answer_accepted, in_range, wants};
+use panoc_engine::first::blank;
 use panoc_engine::outcome::Refusal;
-use panoc_engine::panoc_cache::{
-    Answered, Counts, ExitStatus, Gammas, InnerIterations, Norms, Outcome, Phase, Question, Reply,
-    Run, Settings, Solve,
-};
+use panoc_engine::panoc_cache::{Answered, Outcome, Phase, Question, Reply, Run, Settings, Solve};
+use panoc_engine::points::{first_places, place_of, second_places};
 use panoc_engine::refusals::refusal;
 use starts::numbers::{limit_right, tolerance_right};
 use starts::sizes::sizes_right;
@@ -55,37 +55,6 @@ pub fn start_refusal(set: Settings, u: &[f64]) -> Option<Refusal>
     }
 }
 
-// The small part of a run that waits for its first COST.
-#[tactic(auto, using(ieee::proofs::Special::zero_bits))]
-fn begin(set: Settings) -> Solve
-    ensures { result ≡ blank set }
-{
-    Solve {
-        phase: Phase::Cost,
-        set,
-        cost_value: 0.0,
-        gammas: Gammas {
-            lipschitz_constant: 0.0,
-            gamma: 0.0,
-            sigma: 0.0,
-        },
-        norms: Norms {
-            norm_gamma_fpr: 0.0,
-            best_norm_gamma_fpr: 0.0,
-            tau: 0.0,
-            rhs_ls: 0.0,
-        },
-        norm_h: 0.0,
-        counts: Counts {
-            left: 0,
-            iterations: InnerIterations(0),
-            status: ExitStatus::Converged,
-            rounds: 0,
-        },
-        forget: true,
-    }
-}
-
 // A board of zeros, by a name: callers learn of the literal here that it is `null` at every place.
 #[tactic(auto, using(ieee::proofs::Special::zero_bits), unfolding(crate::specs::Calls::no_places))]
 fn zeros() -> [f64; 576]
@@ -100,7 +69,7 @@ fn zeros() -> [f64; 576]
 pub fn start(set: Settings, u: &[f64]) -> Answered
     ensures { gave result ≡ start (settings_of set) u.now (run_of (blank set) (no_places)) }
 {
-    let mut solve = begin(set);
+    let mut solve = blank(set);
     let mut board = zeros();
     if let Some(refusal) = start_refusal(set, u) {
         solve.phase = Phase::Over;
@@ -154,55 +123,16 @@ pub fn answer(mut run: Run, a: Reply, v: &[f64], u: &mut [f64]) -> Answered
 
 // ---- points
 
-// The vector in which the first point of the question lies.
-fn place_of(p: Phase) -> usize
-    ensures vector { result ≡ place_of p }
-    ensures known { result < 9 }
-{
-    match p {
-        Phase::Project | Phase::DoubledProject | Phase::FirstProject | Phase::TriedProject => STEP,
-        Phase::HalfCost | Phase::DoubledCost => HALF,
-        Phase::Direction => FPR,
-        Phase::TriedCost | Phase::TriedGradient => PLUS,
-        Phase::LastCost => BEST,
-        Phase::Over
-        | Phase::Cost
-        | Phase::Gradient
-        | Phase::Shifted
-        | Phase::FirstCost
-        | Phase::FirstGradient
-        | Phase::Time => U,
-    }
-}
-
-// How many places it has: TIME has none.
-fn first_places(n: usize, p: Phase) -> usize
-    ensures places { result ≡ first_places n p }
-    ensures room { result ≤ n }
-{
-    match p {
-        Phase::Time => 0,
-        _ => n,
-    }
-}
-
-// How many the second has: DIRECTION alone has one, u.
-fn second_places(n: usize, p: Phase) -> usize
-    ensures places { result ≡ second_places n p }
-    ensures room { result ≤ n }
-{
-    match p {
-        Phase::Direction => n,
-        _ => 0,
-    }
-}
-
-// The points of the question of a run, copied; refused where it has ended or a slice is not as long as its point.
+// The points of the question of a run in place, copied; refused where it has ended or a slice is not as long as its point.
 #[tactic(auto, using(crate::proofs::Shows::points))]
-pub fn points(run: Run, first: &mut [f64], second: &mut [f64]) -> Result<(), Refusal>
-    ensures { shows result first.new second.new ≡ points (run_of run.solve run.board) first.old second.old }
+pub fn points_in_place(
+    s: Solve,
+    board: &[f64; 576],
+    first: &mut [f64],
+    second: &mut [f64],
+) -> Result<(), Refusal>
+    ensures { shows result first.new second.new ≡ points (run_of s board.now) first.old second.old }
 {
-    let s = run.solve;
     if !in_range(s) {
         return Err(Refusal::Over);
     }
@@ -214,7 +144,14 @@ pub fn points(run: Run, first: &mut [f64], second: &mut [f64]) -> Result<(), Ref
     if !(first.len() == first_places(n, phase) && second.len() == second_places(n, phase)) {
         return Err(Refusal::Lengths);
     }
-    give(&run.board, place_of(phase), first);
-    give(&run.board, U, second);
+    give(board, place_of(phase), first);
+    give(board, U, second);
     Ok(())
+}
+
+// Those of a run by value.
+pub fn points(run: Run, first: &mut [f64], second: &mut [f64]) -> Result<(), Refusal>
+    ensures { shows result first.new second.new ≡ points (run_of run.solve run.board) first.old second.old }
+{
+    points_in_place(run.solve, &run.board, first, second)
 }
