@@ -39,4 +39,10 @@ uint32_t pozkerrin_inner_start(pkr_inner_run *run, size_t n, size_t max_iter, ui
 uint32_t pozkerrin_inner_answer(pkr_inner_run *run, uint32_t kind, double x, uint32_t code, const double *v, size_t vs, double *plan, size_t plans);
 uint32_t pozkerrin_inner_number(pkr_inner_run *run, double x, double *plan, size_t plans);
 uint32_t pozkerrin_inner_vector(pkr_inner_run *run, const double *v, size_t vs, double *plan, size_t plans);
+
+/* These read a run. The points of its question, copied: 0, or 6 where it has ended and 8 where a slice is not as long as its point; then nothing is written. The number of the vector in whose
+ * first places the first point lies, the second point of DIRECTION in vector 0. The number of the question that stands, 14 where none does. */
+uint32_t pozkerrin_inner_points(const pkr_inner_run *run, double *first, size_t firsts, double *second, size_t seconds);
+uint32_t pozkerrin_inner_place(const pkr_inner_run *run);
+uint32_t pozkerrin_inner_question(const pkr_inner_run *run);
 #endif

@@ -2,3 +2,4 @@ pub mod NumberLaws
 pub mod Kept
 pub mod Arms
 pub mod CallLaws
+pub mod StandLaws

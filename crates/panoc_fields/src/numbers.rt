@@ -2,9 +2,11 @@
 ghost use Rattle.std.specs.Prelude.{◌≡◌};
 ghost use Rattle.machine.specs.Waits.{strange};
 ghost use Rattle.machine.specs.Numbers.{reply_of, question_number, phase_number, status_number, flag_number, flag_of};
+ghost use Rattle.panoc_engine.specs.Told.{number_in};
 ghost use Rattle.panoc_engine.specs.Values.{kind_of, asked_of, phase_of, status_of};
 ghost use Rattle.panoc_fields.specs.Fields.{phase_at, status_at, akkt_at, given};
 
+use panoc_engine::outcome::Refusal;
 use panoc_engine::panoc_cache::{ExitStatus, Phase, Question, Reply};
 use panoc_engine::refusals::Wanted;
 
@@ -19,6 +21,9 @@ pub const FAILED: u32 = 3;
 
 // The table's number of a failure; 0 is of a call that goes on.
 pub const FAILURE: u32 = 9;
+
+// The number of the question where none stands.
+pub const NO_QUESTION: u32 = 14;
 
 // ---- what goes out
 
@@ -154,5 +159,15 @@ pub fn strange_number(wanted: Option<Wanted>) -> u32
     match wanted {
         None => 6,
         Some(_) => 7,
+    }
+}
+
+// The number of a call that may be refused: 0 for none.
+pub fn number_in(r: Result<(), Refusal>) -> u32
+    ensures { result ≡ number_in r }
+{
+    match r {
+        Ok(()) => 0,
+        Err(refusal) => refusal.number(),
     }
 }
