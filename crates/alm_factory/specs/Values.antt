@@ -1,13 +1,9 @@
 -- What the enums of the code stand for in the machine. Definitions only.
-use Rattle.std.specs.Prelude.{ℕ}
-use Rattle.std.specs.Prelude as Std
-use Rattle.std.specs.declared.result.Result.{Result}
 use Rattle.model.specs.Psi as S
 use Rattle.machine.specs.Told as Say
 use Rattle.machine.specs.PsiRun as M
 use Rattle.panoc_engine.specs.declared.outcome.Outcome.{Outcome}
-use Rattle.panoc_engine.specs.declared.outcome.Refusal.{Refusal}
-use Rattle.panoc_engine.specs.Told.{refusal_number, telling}
+use Rattle.panoc_engine.specs.Told.{telling}
 use Rattle.alm_factory.specs.declared.records.Sizes.{Sizes}
 use Rattle.alm_factory.specs.declared.records.PsiQuestion.{PsiQuestion}
 use Rattle.alm_factory.specs.declared.records.PsiQuestion.TheVariants as Q
@@ -53,8 +49,3 @@ same x = x
 
 abbrev pub told_of : {E : Type 0} → Outcome PsiQuestion E → Say.Told M.Asked E
 told_of = telling asked_of same
-
--- the number of a call that may be refused: 0 for none
-abbrev pub number_in : Result (Unit {0}) Refusal → ℕ
-number_in (Std.Ok done) = 0
-number_in (Std.Err r) = refusal_number r

@@ -4,7 +4,7 @@ ghost use Rattle.std.specs.Float.{binary64};
 ghost use Rattle.board.specs.Board.{vector};
 ghost use Rattle.machine.specs.PsiRest.{psi_rest, d_psi_rest};
 ghost use Rattle.machine.specs.PsiCalls.{Placed, Points};
-ghost use Rattle.alm_factory.specs.Values.{number_in};
+ghost use Rattle.panoc_engine.specs.Told.{number_in};
 ghost use Rattle.alm_factory.specs.Runs.{psi_run, psi_of, d_psi_run, d_psi_of};
 
 use crate::records::{DPsi, DPsiPhase, DPsiRun, Psi, PsiPhase, PsiRun, Sizes};

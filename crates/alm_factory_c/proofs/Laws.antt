@@ -8,7 +8,7 @@ use Rattle.model.specs.Refusals.{Reply, answer_refusal}
 use Rattle.board.specs.Board.{vector}
 use Rattle.machine.specs.Told.{given}
 use Rattle.machine.specs.Waits.{strange, any_refusal}
-use Rattle.machine.specs.Numbers.{table_number, replies, reply_of}
+use Rattle.machine.specs.Numbers.{table_number}
 use Rattle.machine.specs.PsiNumbers.{psi_phase_number, d_psi_phase_number}
 use Rattle.machine.specs.PsiRun as M
 use Rattle.machine.specs.PsiMoves.{psi_move, d_psi_move}
@@ -30,6 +30,7 @@ use Rattle.alm_factory.specs.Runs.{psi_run, psi_left, d_psi_run, d_psi_left}
 use Rattle.panoc_engine.proofs.Numbers.{refusal_some}
 use Rattle.alm_factory.proofs.PsiLaws as PsiLaws
 use Rattle.alm_factory.proofs.DPsiLaws as DPsiLaws
+use Rattle.panoc_fields.proofs.CallLaws.{strange_some}
 use Rattle.alm_factory_c.specs.declared.psi.PsiC.{PsiC}
 use Rattle.alm_factory_c.specs.declared.d_psi.DPsiC.{DPsiC}
 use Rattle.alm_factory_c.specs.Fields.{psi_phases, psi_at, d_psi_phases, d_psi_at, psi_small, psi_put, PsiKept, PsiLeaves, PsiBegins, psi_refusal_of, d_psi_small, d_psi_put, DPsiKept, DPsiLeaves, DPsiBegins, d_psi_refusal_of}
@@ -39,9 +40,6 @@ psi_past m h = sym (get_or-eq_default psi_phases _ {n = m} h)
 
 pub d_psi_past : (m : ℕ) → 7 ≤ m → D.Over ≡ d_psi_at m
 d_psi_past m h = sym (get_or-eq_default d_psi_phases _ {n = m} h)
-
-pub reply_past : (m : ℕ) (x : Float) (code : ℕ) → 5 ≤ m → none ≡ reply_of m x code
-reply_past m x code h = sym (get_or-eq_default (replies x code) _ {n = m} h)
 
 -- a phase is that of its number
 psi_round : (p : PsiPhase) → psi_at (psi_phase_number (psi_phase_of p)) ≡ p
@@ -59,12 +57,6 @@ d_psi_round D.ProjectC = refl
 d_psi_round D.Jf1t = refl
 d_psi_round D.F2 = refl
 d_psi_round D.Jf2t = refl
-
--- an answer of no kind is refused
-strange_some : (w : Option Kind) → strange w ≡ 0 → ⊥
-unfolding strange
-strange_some none e = omega arith
-strange_some (some k) e = omega arith
 
 -- ---- psi
 

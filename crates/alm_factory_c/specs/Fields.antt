@@ -1,7 +1,6 @@
 -- What the fields of the structs of C stand for, and what a call leaves in them. Definitions only.
 use Rattle.std.specs.Prelude.{ℕ, suc, ◌≡◌, true, List, [], ◌∷◌, Float, length, eqb, get_or}
-use Rattle.std.specs.Prelude as Std
-use Rattle.std.proofs.Math.Option.{Option, none, some}
+use Rattle.std.proofs.Math.Option.{Option}
 use Rattle.std.specs.Float.{binary64}
 use Rattle.model.specs.Refusals.{Reply}
 use Rattle.machine.specs.Told.{Told, asked, ended, refused, failed}
@@ -10,8 +9,6 @@ use Rattle.machine.specs.Numbers.{outcome_number, told_number, table_number}
 use Rattle.machine.specs.PsiNumbers.{question_number, psi_phase_number, d_psi_phase_number}
 use Rattle.machine.specs.PsiRun as M
 use Rattle.machine.specs.PsiCalls.{waits, psi_kind_at, d_psi_kind_at, psi_answer_any, d_psi_answer_any, handed_out, PsiStarts, DPsiStarts}
-use Rattle.panoc_engine.specs.declared.panoc_cache.Reply as C
-use Rattle.panoc_engine.specs.Values.{reply_of}
 use Rattle.alm_factory.specs.declared.records.PsiPhase.{PsiPhase}
 use Rattle.alm_factory.specs.declared.records.PsiPhase.TheVariants as P
 use Rattle.alm_factory.specs.declared.records.DPsiPhase.{DPsiPhase}
@@ -38,11 +35,6 @@ d_psi_phases = D.Over ∷ D.Gradient ∷ D.F1 ∷ D.ProjectC ∷ D.Jf1t ∷ D.F2
 
 abbrev pub d_psi_at : ℕ → DPsiPhase
 d_psi_at m = get_or d_psi_phases m D.Over
-
--- an answer, none of a kind of no name
-abbrev pub given : Std.Option C.Reply → Option Reply
-given Std.None = none
-given (Std.Some a) = some (reply_of a)
 
 -- ---- psi
 

@@ -1,22 +1,26 @@
 // The calls of d_psi for C.
-ghost use Rattle.std.specs.Prelude.{◌≡◌, length};
+ghost use Rattle.std.specs.Prelude.{◌≡◌, List, Float, length};
 ghost use Rattle.std.specs.Float.{binary64};
 ghost use Rattle.machine.specs.Numbers.{reply_of, table_number};
+ghost use Rattle.machine.specs.Standing.{d_psi_standing};
 ghost use Rattle.machine.specs.PsiRest.{d_psi_rest};
 ghost use Rattle.machine.specs.PsiCalls.{Points};
 ghost use Rattle.alm_factory.specs.Values.{told_of};
+ghost use Rattle.alm_factory.specs.Runs.{d_psi_run};
 ghost use Rattle.alm_factory_c.specs.Fields.{d_psi_small, d_psi_of, d_psi_put, DPsiLeaves, DPsiBegins};
 
-use crate::numbers::{
-    ASKED, ENDED, FAILED, FAILURE, REFUSED, d_psi_phase_at, d_psi_phase_number, number_in,
-    question_number, reply_at, strange_number,
-};
+use crate::numbers::{d_psi_phase_at, d_psi_phase_number, question_number};
 use alm_factory::d_psi_answers::{hand_out, step};
 use alm_factory::points::d_psi_points_in_place;
-use alm_factory::records::{DPsi, DPsiMoved, DPsiOutcome, DPsiStepped, Sizes};
+use alm_factory::records::{
+    DPsi, DPsiMoved, DPsiOutcome, DPsiPhase, DPsiStepped, PsiQuestion, Sizes,
+};
 use alm_factory::starts::d_psi_start_in_place;
-use alm_factory::waits::d_psi_waits;
+use alm_factory::waits::{d_psi_waits, is_sound};
 use panoc_engine::refusals::refusal;
+use panoc_fields::numbers::{
+    ASKED, ENDED, FAILED, FAILURE, NO_QUESTION, REFUSED, number_in, reply_at, strange_number,
+};
 
 // A run of d_psi, as PsiC has one of psi. Its numbers go into the lent result.
 #[repr(C)]
@@ -140,4 +144,31 @@ pub extern "C" fn pozkerrin_d_psi_points(run: &DPsiC, first: &mut [f64], second:
     ensures { Points (d_psi_rest binary64 (d_psi_of run.now)) first.old first.new second.old second.new result }
 {
     number_in(d_psi_points_in_place(small(run), first, second, &run.board))
+}
+
+// The number of the question at a phase, where sizes are those of a run that a start made.
+#[tactic(auto, unfolding(machine::specs::PsiRest::rest, machine::specs::PsiRest::d_psi_resume, machine::specs::InnerCalls::asking, alm_factory::specs::Runs::d_psi_run))]
+fn standing(s: DPsi) -> u32
+    ensures { (l : List Float) → result ≡ d_psi_standing binary64 (d_psi_run s l) }
+{
+    if !is_sound(s.sizes) {
+        return NO_QUESTION;
+    }
+    match s.phase {
+        DPsiPhase::Over => NO_QUESTION,
+        DPsiPhase::Gradient => question_number(PsiQuestion::Gradient),
+        DPsiPhase::F1 => question_number(PsiQuestion::F1),
+        DPsiPhase::ProjectC => question_number(PsiQuestion::ProjectC),
+        DPsiPhase::Jf1t => question_number(PsiQuestion::Jf1t),
+        DPsiPhase::F2 => question_number(PsiQuestion::F2),
+        DPsiPhase::Jf2t => question_number(PsiQuestion::Jf2t),
+    }
+}
+
+// The number of the question that stands, 14 where none does.
+#[unsafe(no_mangle)]
+pub extern "C" fn pozkerrin_d_psi_question(run: &DPsiC) -> u32
+    ensures { result ≡ d_psi_standing binary64 (d_psi_of run.now) }
+{
+    standing(small(run))
 }

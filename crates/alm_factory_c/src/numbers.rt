@@ -1,28 +1,10 @@
-// The numbers that C sees and gives.
+// The numbers that C sees and gives, of the enums of psi and d_psi; the rest is as in panoc_fields.
 ghost use Rattle.std.specs.Prelude.{◌≡◌};
-ghost use Rattle.machine.specs.Waits.{strange};
-ghost use Rattle.machine.specs.Numbers.{reply_of};
 ghost use Rattle.machine.specs.PsiNumbers.{question_number, psi_phase_number, d_psi_phase_number};
-ghost use Rattle.panoc_engine.specs.Values.{kind_of};
-ghost use Rattle.alm_factory.specs.Values.{asked_of, psi_phase_of, d_psi_phase_of, number_in};
-ghost use Rattle.alm_factory_c.specs.Fields.{psi_at, d_psi_at, given};
+ghost use Rattle.alm_factory.specs.Values.{asked_of, psi_phase_of, d_psi_phase_of};
+ghost use Rattle.alm_factory_c.specs.Fields.{psi_at, d_psi_at};
 
 use alm_factory::records::{DPsiPhase, PsiPhase, PsiQuestion};
-use panoc_engine::outcome::Refusal;
-use panoc_engine::panoc_cache::Reply;
-use panoc_engine::refusals::Wanted;
-
-// What a call tells, by its kind: a question, an end, a refusal at a start, the host's failure.
-pub const ASKED: u32 = 0;
-
-pub const ENDED: u32 = 1;
-
-pub const REFUSED: u32 = 2;
-
-pub const FAILED: u32 = 3;
-
-// The table's number of a failure; 0 is of a call that goes on.
-pub const FAILURE: u32 = 9;
 
 // The questions have the numbers that they have in the loop.
 pub fn question_number(q: PsiQuestion) -> u32
@@ -93,41 +75,5 @@ pub fn d_psi_phase_at(number: u32) -> DPsiPhase
         5 => DPsiPhase::F2,
         6 => DPsiPhase::Jf2t,
         _ => DPsiPhase::Over,
-    }
-}
-
-// An answer: 0 the number x, 1 a vector, 2 yes, 3 no, 4 the failure code; another number is none.
-#[tactic(auto, using(crate::proofs::Laws::reply_past))]
-pub fn reply_at(kind: u32, x: f64, code: u32) -> Option<Reply>
-    ensures { given result ≡ reply_of kind x code }
-{
-    match kind {
-        0 => Some(Reply::Number(x)),
-        1 => Some(Reply::Vector),
-        2 => Some(Reply::Yes),
-        3 => Some(Reply::No),
-        4 => Some(Reply::Failure(code)),
-        _ => None,
-    }
-}
-
-// An answer of no kind gets 6 where the run has ended, else 7.
-#[tactic(auto, unfolding(machine::specs::Waits::strange))]
-pub fn strange_number(wanted: Option<Wanted>) -> u32
-    ensures { result ≡ strange (kind_of wanted) }
-{
-    match wanted {
-        None => 6,
-        Some(_) => 7,
-    }
-}
-
-// The number of a call that may be refused: 0 for none.
-pub fn number_in(r: Result<(), Refusal>) -> u32
-    ensures { result ≡ number_in r }
-{
-    match r {
-        Ok(()) => 0,
-        Err(refusal) => refusal.number(),
     }
 }

@@ -1,22 +1,24 @@
 // The calls of psi for C.
-ghost use Rattle.std.specs.Prelude.{◌≡◌, length};
+ghost use Rattle.std.specs.Prelude.{◌≡◌, List, Float, length};
 ghost use Rattle.std.specs.Float.{binary64};
 ghost use Rattle.machine.specs.Numbers.{reply_of, table_number};
+ghost use Rattle.machine.specs.Standing.{psi_standing};
 ghost use Rattle.machine.specs.PsiRest.{psi_rest};
 ghost use Rattle.machine.specs.PsiCalls.{Points};
 ghost use Rattle.alm_factory.specs.Values.{told_of};
+ghost use Rattle.alm_factory.specs.Runs.{psi_run};
 ghost use Rattle.alm_factory_c.specs.Fields.{psi_small, psi_of, psi_put, PsiLeaves, PsiBegins};
 
-use crate::numbers::{
-    ASKED, ENDED, FAILED, FAILURE, REFUSED, number_in, psi_phase_at, psi_phase_number,
-    question_number, reply_at, strange_number,
-};
+use crate::numbers::{psi_phase_at, psi_phase_number, question_number};
 use alm_factory::points::psi_points_in_place;
 use alm_factory::psi_answers::step;
-use alm_factory::records::{Psi, PsiMoved, PsiOutcome, PsiStepped, Sizes};
+use alm_factory::records::{Psi, PsiMoved, PsiOutcome, PsiPhase, PsiQuestion, PsiStepped, Sizes};
 use alm_factory::starts::psi_start_in_place;
-use alm_factory::waits::psi_waits;
+use alm_factory::waits::{is_sound, psi_waits};
 use panoc_engine::refusals::refusal;
+use panoc_fields::numbers::{
+    ASKED, ENDED, FAILED, FAILURE, NO_QUESTION, REFUSED, number_in, reply_at, strange_number,
+};
 
 // A run of psi: which question it waits for; what the last call that wrote has told, by its kind and a number beside it; n, n1 and n2; the penalty; the number
 // so far, and at an end the number that psi ends with; and the vectors, 64 places each.
@@ -145,4 +147,29 @@ pub extern "C" fn pozkerrin_psi_points(run: &PsiC, first: &mut [f64], second: &m
     ensures { Points (psi_rest binary64 (psi_of run.now)) first.old first.new second.old second.new result }
 {
     number_in(psi_points_in_place(small(run), first, second, &run.board))
+}
+
+// The number of the question at a phase, where sizes are those of a run that a start made.
+#[tactic(auto, unfolding(machine::specs::PsiRest::rest, machine::specs::PsiRest::psi_resume, machine::specs::InnerCalls::asking, alm_factory::specs::Runs::psi_run))]
+fn standing(s: Psi) -> u32
+    ensures { (l : List Float) → result ≡ psi_standing binary64 (psi_run s l) }
+{
+    if !is_sound(s.sizes) {
+        return NO_QUESTION;
+    }
+    match s.phase {
+        PsiPhase::Over => NO_QUESTION,
+        PsiPhase::Cost => question_number(PsiQuestion::Cost),
+        PsiPhase::F1 => question_number(PsiQuestion::F1),
+        PsiPhase::ProjectC => question_number(PsiQuestion::ProjectC),
+        PsiPhase::F2 => question_number(PsiQuestion::F2),
+    }
+}
+
+// The number of the question that stands, 14 where none does.
+#[unsafe(no_mangle)]
+pub extern "C" fn pozkerrin_psi_question(run: &PsiC) -> u32
+    ensures { result ≡ psi_standing binary64 (psi_of run.now) }
+{
+    standing(small(run))
 }
