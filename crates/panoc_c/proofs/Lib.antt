@@ -1,2 +1,1 @@
 pub mod StartLaws
-pub mod PlaceLaws

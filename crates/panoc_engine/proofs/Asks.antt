@@ -1,5 +1,5 @@
 -- The question of each phase of an inner solve: where its points lie, and its number. Assumes nothing.
-use Rattle.std.proofs.Common.{◌≡◌, refl, List, Float}
+use Rattle.std.proofs.Common.{◌≡◌, refl, ◌<◌, ◌≤◌, List, Float, arith}
 use Rattle.std.proofs.Math.Option.{some}
 use Rattle.model.specs.Process.{Question}
 use Rattle.board.specs.Firsts.{firsts}
@@ -21,26 +21,29 @@ pub record Asks (s : Solve) (l : List Float) (p : Phase) : Type 0 where
   pub is : question_at (run_of s l) (phase_of p) ≡ some question
   pub first : first_point question ≡ vector (place_of p) (first_places s.set.n p) l
   pub second : second_point question ≡ vector U (second_places s.set.n p) l
+  pub known : place_of p < 9
+  pub few : first_places s.set.n p ≤ s.set.n
+  pub few_second : second_places s.set.n p ≤ s.set.n
 
 pub asks : (s : Solve) (l : List Float) (p : Phase) → (p ≡ P.Over → ⊥) → Asks s l p
 unfolding run_of board_of vector firsts
 asks s l P.Over k = absurd (k refl)
-asks s l P.Cost k = record { question = _; is = refl; first = refl; second = refl }
-asks s l P.Gradient k = record { question = _; is = refl; first = refl; second = refl }
-asks s l P.Shifted k = record { question = _; is = refl; first = refl; second = refl }
-asks s l P.Project k = record { question = _; is = refl; first = refl; second = refl }
-asks s l P.HalfCost k = record { question = _; is = refl; first = refl; second = refl }
-asks s l P.DoubledProject k = record { question = _; is = refl; first = refl; second = refl }
-asks s l P.DoubledCost k = record { question = _; is = refl; first = refl; second = refl }
-asks s l P.Direction k = record { question = _; is = refl; first = refl; second = refl }
-asks s l P.FirstCost k = record { question = _; is = refl; first = refl; second = refl }
-asks s l P.FirstGradient k = record { question = _; is = refl; first = refl; second = refl }
-asks s l P.FirstProject k = record { question = _; is = refl; first = refl; second = refl }
-asks s l P.TriedCost k = record { question = _; is = refl; first = refl; second = refl }
-asks s l P.TriedGradient k = record { question = _; is = refl; first = refl; second = refl }
-asks s l P.TriedProject k = record { question = _; is = refl; first = refl; second = refl }
-asks s l P.Time k = record { question = _; is = refl; first = refl; second = refl }
-asks s l P.LastCost k = record { question = _; is = refl; first = refl; second = refl }
+asks s l P.Cost k = record { question = _; is = refl; first = refl; second = refl; known = omega arith; few = omega arith; few_second = omega arith }
+asks s l P.Gradient k = record { question = _; is = refl; first = refl; second = refl; known = omega arith; few = omega arith; few_second = omega arith }
+asks s l P.Shifted k = record { question = _; is = refl; first = refl; second = refl; known = omega arith; few = omega arith; few_second = omega arith }
+asks s l P.Project k = record { question = _; is = refl; first = refl; second = refl; known = omega arith; few = omega arith; few_second = omega arith }
+asks s l P.HalfCost k = record { question = _; is = refl; first = refl; second = refl; known = omega arith; few = omega arith; few_second = omega arith }
+asks s l P.DoubledProject k = record { question = _; is = refl; first = refl; second = refl; known = omega arith; few = omega arith; few_second = omega arith }
+asks s l P.DoubledCost k = record { question = _; is = refl; first = refl; second = refl; known = omega arith; few = omega arith; few_second = omega arith }
+asks s l P.Direction k = record { question = _; is = refl; first = refl; second = refl; known = omega arith; few = omega arith; few_second = omega arith }
+asks s l P.FirstCost k = record { question = _; is = refl; first = refl; second = refl; known = omega arith; few = omega arith; few_second = omega arith }
+asks s l P.FirstGradient k = record { question = _; is = refl; first = refl; second = refl; known = omega arith; few = omega arith; few_second = omega arith }
+asks s l P.FirstProject k = record { question = _; is = refl; first = refl; second = refl; known = omega arith; few = omega arith; few_second = omega arith }
+asks s l P.TriedCost k = record { question = _; is = refl; first = refl; second = refl; known = omega arith; few = omega arith; few_second = omega arith }
+asks s l P.TriedGradient k = record { question = _; is = refl; first = refl; second = refl; known = omega arith; few = omega arith; few_second = omega arith }
+asks s l P.TriedProject k = record { question = _; is = refl; first = refl; second = refl; known = omega arith; few = omega arith; few_second = omega arith }
+asks s l P.Time k = record { question = _; is = refl; first = refl; second = refl; known = omega arith; few = omega arith; few_second = omega arith }
+asks s l P.LastCost k = record { question = _; is = refl; first = refl; second = refl; known = omega arith; few = omega arith; few_second = omega arith }
 
 -- its number
 pub number_at : (s : Solve) (b : Board) (p : Phase) → (p ≡ P.Over → ⊥) → question_number (asked_at p s.forget) ≡ standing inner_number (question_at (run_at s b) (phase_of p))

@@ -3,3 +3,4 @@ pub mod Kept
 pub mod Arms
 pub mod CallLaws
 pub mod StandLaws
+pub mod PlaceLaws

@@ -1,5 +1,6 @@
 // What an answer changes, put into the fields of a run, each number exact. What a call gives is the table's number, 0 for none.
 ghost use Rattle.std.specs.Prelude.{◌≡◌, List, Float};
+ghost use Rattle.panoc_engine.specs.Blank.{blank};
 ghost use Rattle.panoc_engine.specs.Runs.{moved, costed, shifting, estimated, doubled, searched, tested, ended};
 ghost use Rattle.panoc_fields.specs.Fields.{solve_at, seen, exact, telling};
 
@@ -11,7 +12,8 @@ use crate::numbers::{
 use panoc_engine::answers::question_at;
 use panoc_engine::outcome::Refusal;
 use panoc_engine::panoc_cache::{
-    Costed, Doubled, Estimated, Moved, Outcome, Phase, Searched, Shifted, Tested,
+    Costed, Doubled, Estimated, ExitStatus, Gammas, Moved, Norms, Outcome, Phase, Searched,
+    Shifted, Tested,
 };
 
 // What a call tells, at a phase: its kind and the number beside it.
@@ -21,6 +23,33 @@ fn tell(p: Phase, outcome: u32, told: u32, run: &mut InnerFields)
     run.phase = phase_number(p);
     run.outcome = outcome;
     run.told = told;
+}
+
+// A run that waits for its first COST, of the settings that its fields hold.
+#[tactic(auto, using(ieee::proofs::Special::zero_bits))]
+pub fn keep_blank(run: &mut InnerFields)
+    ensures blank { solve_at run.new ≡ blank (solve_at run.old).set }
+    ensures end { run.new.end ≡ run.old.end }
+{
+    run.phase = phase_number(Phase::Cost);
+    run.status = status_number(ExitStatus::Converged);
+    run.forget = flag_number(true);
+    run.left = 0;
+    run.iterations = 0;
+    run.rounds = 0;
+    run.cost_value = 0.0;
+    run.gammas = Gammas {
+        lipschitz_constant: 0.0,
+        gamma: 0.0,
+        sigma: 0.0,
+    };
+    run.norms = Norms {
+        norm_gamma_fpr: 0.0,
+        best_norm_gamma_fpr: 0.0,
+        tau: 0.0,
+        rhs_ls: 0.0,
+    };
+    run.norm_h = 0.0;
 }
 
 // A refusal that ends the run.

@@ -1,5 +1,5 @@
 use Rattle.std.proofs.Common.{refl}
-use Rattle.panoc_c.proofs.PlaceLaws.{lies}
+use Rattle.panoc_fields.proofs.PlaceLaws.{lies}
 use Rattle.panoc_c.proofs.points.pozkerrin_inner_place.Goals as goal
 
 pub returns-clause-lies : goal.returns-clause-lies

@@ -4,7 +4,7 @@ use Rattle.panoc_c.proofs.StartLaws.{settings_same, start_refused, start_begun}
 use Rattle.panoc_c.proofs.start.pozkerrin_inner_start.Goals as goal
 
 pub returns-in-Some : goal.returns-in-Some
-returns-in-Some c = start_refused _ c.args.at.now c.args.run.now.board c.begin.new.run c.keep_ended.new.run c.begin.ensures.blank _ _ c.begin.ensures.end _ (settings_same _ _ _ _ _ _ _ _ c.flag_at.ensures c.akkt_at.ensures) _ c.in-Some.ensures (c.keep_ended.ensures c.args.run.now.board)
+returns-in-Some c = start_refused _ c.args.at.now c.args.run.now.board c.keep_blank.new.run c.keep_ended.new.run c.keep_blank.ensures.blank _ _ c.keep_blank.ensures.end _ (settings_same _ _ _ _ _ _ _ _ c.flag_at.ensures c.akkt_at.ensures) _ c.in-Some.ensures (c.keep_ended.ensures c.args.run.now.board)
 
 pub take_into-requires : goal.take_into-requires
 take_into-requires c =
@@ -13,4 +13,4 @@ take_into-requires c =
     omega (arith, h, p)
 
 pub returns : goal.returns
-returns c = start_begun _ c.args.at.now c.args.run.now.board c.begin.new.run c.keep_moved.new.run c.begin.ensures.blank _ _ c.begin.ensures.end _ (settings_same _ _ _ _ _ _ _ _ c.flag_at.ensures c.akkt_at.ensures) _ c.take_into.ensures (search rules) c.in_default.ensures (c.keep_moved.ensures c.take_into.new.board)
+returns c = start_begun _ c.args.at.now c.args.run.now.board c.keep_blank.new.run c.keep_moved.new.run c.keep_blank.ensures.blank _ _ c.keep_blank.ensures.end _ (settings_same _ _ _ _ _ _ _ _ c.flag_at.ensures c.akkt_at.ensures) _ c.take_into.ensures (search rules) c.in_default.ensures (c.keep_moved.ensures c.take_into.new.board)
