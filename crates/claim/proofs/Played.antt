@@ -105,7 +105,7 @@ module _ (f : Format) where
   unfolding begins iteration inner_solve
   begins_asks r = cond_table r.set.limited _ _ refl (cond_table r.set.set_y _ _ refl refl)
 
-  start_asks : (s : LoopSettings) (u xi : List Float) (r : Loop.Run) → loop_refusal f s u xi ≡ 0 → table_number (LoopAnswer.start f s u xi r).told ≡ 0
+  pub start_asks : (s : LoopSettings) (u xi : List Float) (r : Loop.Run) → loop_refusal f s u xi ≡ 0 → table_number (LoopAnswer.start f s u xi r).told ≡ 0
   unfolding LoopAnswer.start
   start_asks s u xi r z = rw z (begins_asks (LoopAnswer.begun s u xi r))
 
@@ -183,7 +183,7 @@ module _ (f : Format) where
   move_own r DPsiPhase.jf2t Reply.vector v lent o e = o
   move_own r DPsiPhase.jf2t a v lent o e = o
 
-  d_psi_owns : (r : DPsiRun) (a : Option Reply) (v us : List Float) → Own r → Own (d_psi_answer_any f a v us r).run
+  pub d_psi_owns : (r : DPsiRun) (a : Option Reply) (v us : List Float) → Own r → Own (d_psi_answer_any f a v us r).run
   unfolding d_psi_answer_any d_psi_answer ruled
   d_psi_owns r none v us o = o
   d_psi_owns r (some a) v us o = by (d_psi_refuses r a (length v) (length us)) refl
