@@ -1,0 +1,4 @@
+pub mod Feeds
+pub mod Solves
+pub mod Loops
+pub mod Penalties
