@@ -6,3 +6,4 @@ pub mod InnerProof
 pub mod LoopProof
 pub mod PsiProof
 pub mod Played
+pub mod ForC

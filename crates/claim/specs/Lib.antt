@@ -8,3 +8,4 @@ pub mod Follow
 pub mod Loop
 pub mod Psi
 pub mod Played
+pub mod ForC

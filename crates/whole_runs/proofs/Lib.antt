@@ -2,3 +2,4 @@ pub mod Feeds
 pub mod Solves
 pub mod Loops
 pub mod Penalties
+pub mod ForC

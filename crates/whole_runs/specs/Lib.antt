@@ -1,2 +1,3 @@
 pub mod Feed
 pub mod Whole
+pub mod ForC
