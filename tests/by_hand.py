@@ -1,10 +1,12 @@
-"""What solve_by_hand.py and loop_by_hand.py share: floats by their bits, and what the Rust prints for a script (`oracle expect`)."""
+"""What solve_by_hand.py and loop_by_hand.py share: floats by their bits, what the Rust prints for a script (`oracle expect`), and the parts of the stdout of crate by_hand."""
 import pathlib
 import struct
 import subprocess
 import sys
 
 TOP = pathlib.Path(__file__).resolve().parent.parent
+STDOUT = TOP / "crates" / "by_hand" / "stdout"
+HEADS = ["inner solve", "loop", "psi", "d_psi"]
 ORACLE = TOP / "oracle" / "target" / "release" / "oracle"
 
 
@@ -42,12 +44,25 @@ def play(start, answer):
     return lines, lent
 
 
-def hold(crate, lines):
-    """Writes the stdout of a crate; with --check fails where the stored one differs."""
-    stdout = TOP / "crates" / crate / "stdout"
-    text = "".join(line + "\n" for line in lines)
+def parts(text):
+    """The lines of each part of the stdout, by its head."""
+    found, lines = {}, None
+    for line in text.splitlines():
+        if line.startswith("# "):
+            lines = found[line[2:]] = []
+        else:
+            lines.append(line)
+    return found
+
+
+def hold(made):
+    """Writes the parts that are made, lines by their heads, into the stdout of crate by_hand; with --check fails where it has other lines."""
+    stored = STDOUT.read_text() if STDOUT.exists() else ""
+    found = {**parts(stored), **made}
+    text = "".join(line + "\n" for head in HEADS if head in found for line in ["# " + head, *found[head]])
     if "--check" not in sys.argv[1:]:
-        stdout.write_text(text)
-    elif stdout.read_text() != text:
-        sys.exit(f"crates/{crate}/stdout is not what tests/{crate}.py makes")
-    print(f"{crate}: {len(lines)} lines of the Rust's run")
+        STDOUT.write_text(text)
+    elif stored != text:
+        sys.exit(f"{STDOUT.relative_to(TOP)} is not what tests/{pathlib.Path(sys.argv[0]).name} makes")
+    for head, lines in made.items():
+        print(f"by_hand, {head}: {len(lines)} lines of the Rust's run")

@@ -1,5 +1,5 @@
 #!/usr/bin/env python3
-"""loop_by_hand.py [--check]: writes crates/loop_by_hand/stdout: a small loop, then psi and d_psi, as the Rust plays them.
+"""loop_by_hand.py [--check]: writes the other parts of crates/by_hand/stdout: a small loop, then psi and d_psi, as the Rust plays them.
 
 The questions, points, ends and lent places are what `oracle expect` prints, which runs the Rust files unchanged; the answers are
 worked out here, in Python's floats, psi and its gradient too. oracle/build.sh comes first. --check writes nothing and fails where
@@ -99,7 +99,7 @@ def main():
     d_psi_lines, result = play("d_psi 2 1 1 2 " + " ".join(end), answer)
     assert d_psi_lines[-1] == "ended"
     d_psi_lines[-1] = "ended " + " ".join(result.split(" ")[1:3])
-    hold("loop_by_hand", lines + [lent] + psi_lines + d_psi_lines)
+    hold({"loop": lines + [lent], "psi": psi_lines, "d_psi": d_psi_lines})
 
 
 main()

@@ -1,5 +1,5 @@
 #!/usr/bin/env python3
-"""solve_by_hand.py [--check]: writes crates/solve_by_hand/stdout, the solve of that crate as the Rust plays it.
+"""solve_by_hand.py [--check]: writes the first part of crates/by_hand/stdout: the inner solve of that crate as the Rust plays it.
 
 The questions, points, end and plan are what `oracle expect` prints, which runs the Rust files unchanged; the answers are worked
 out here, in Python's floats. oracle/build.sh comes first. --check writes nothing and fails where the stored file differs."""
@@ -50,7 +50,7 @@ def main():
     start = f"inner {len(START)} {LIMIT} 1 {word(TOLERANCE)} {word(AKKT_TOLERANCE)} {words(START)}"
     lines, lent = play(start, answer)
     plan = lent.split(" ")[1 : 1 + len(START)]
-    hold("solve_by_hand", lines + ["plan " + " ".join(plan)])
+    hold({"inner solve": lines + ["plan " + " ".join(plan)]})
 
 
 main()

@@ -1,5 +1,5 @@
 #!/usr/bin/env bash
-# Holds the stdout of solve_by_hand and loop_by_hand and the runs of corners to what the Rust prints, where cargo and the Rust source are there; else it says so and passes.
+# Holds the stdout of by_hand and the runs of corners to what the Rust prints, where cargo and the Rust source are there; else it says so and passes.
 set -euo pipefail
 if ! command -v cargo >/dev/null || [ ! -d ../shared/docs/src ]; then
   echo "not held to the Rust: no cargo, or no Rust source at ../shared/docs/src"
