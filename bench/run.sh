@@ -92,9 +92,14 @@ echo
 compile sets bench/c/sets.c "$out/models.o" "$archive" -lm
 "$out/sets" "$rounds"
 echo
-echo "### By-value calls inside Rattle"
+echo "### Calls by value inside Rattle"
 echo
-bash bench/values.sh
+if ! bash tools/build.sh values >"$out/values.log" 2>&1; then
+  tail -n 20 "$out/values.log" >&2
+  exit 1
+fi
+compile values bench/c/values.c "$out/library.o" "$out/models.o" target/staticlib/libvalues.a "$archive" "${rust[@]}" -lm
+"$out/values"
 echo
 echo "### The root"
 echo

@@ -1,0 +1,11 @@
+-- After some turns of `feed` what is left of the list leads to where the whole does. Assumes nothing.
+use Rattle.std.proofs.Common.{◌≡◌, drop}
+use Rattle.std.specs.Float.{binary64}
+use Rattle.machine.specs.Machines.{inner_machine}
+use Rattle.values.specs.Feeding.{fed}
+use Rattle.values.specs.Runs.{inner_stands}
+use Rattle.values.proofs.inner_solve.feed.Given as goal
+
+abbrev pub invariant-loop-k : goal.invariant-loop-k
+invariant-loop-k l =
+    fed (inner_machine binary64) (drop l.k-index l.fn.places) l.rest (inner_stands l.last l.plan) ≡ fed (inner_machine binary64) l.fn.places l.fn.xs (inner_stands l.fn.last l.fn.plan)

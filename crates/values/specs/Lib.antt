@@ -1,0 +1,3 @@
+pub mod Feeding
+pub mod Runs
+pub mod Tasks
