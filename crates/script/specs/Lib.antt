@@ -1,2 +1,2 @@
-pub mod StartingLines
-pub mod SetsLines
+pub mod Lines
+pub mod SetLines

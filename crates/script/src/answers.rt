@@ -3,12 +3,11 @@
 
 ghost use Rattle.std.specs.Prelude.{◌≡◌};
 ghost use Rattle.words.specs.LineFieldsLeft.{left};
-ghost use Rattle.script.specs.StartingLines.{closed, number_line, vector_line, failure_line, lend_line};
+ghost use Rattle.script.specs.Lines.{closed, number_line, vector_line, failure_line, lend_line};
 
-use crate::command::{Command, Said};
-use crate::starting::alone;
+use crate::command::{Command, Said, alone};
 use arrayvec::ArrayVec;
-use panoc_core::panoc_cache::Reply;
+use panoc_engine::panoc_cache::Reply;
 use words::line_fields::Fields;
 
 // A command without further fields.
@@ -22,7 +21,7 @@ pub fn bare<const U: usize, const XI: usize>(
 }
 
 // number X
-#[tactic(auto, unfolding(crate::specs::StartingLines::number_line))]
+#[tactic(auto, unfolding(crate::specs::Lines::number_line))]
 pub fn number<const U: usize, const XI: usize>(mut fields: Fields) -> Option<Said<U, XI>>
     ensures { result ≡ number_line U XI (left fields.entry) }
 {
@@ -31,7 +30,7 @@ pub fn number<const U: usize, const XI: usize>(mut fields: Fields) -> Option<Sai
 }
 
 // vector X...
-#[tactic(auto, unfolding(crate::specs::StartingLines::vector_line))]
+#[tactic(auto, unfolding(crate::specs::Lines::vector_line))]
 pub fn vector<const U: usize, const XI: usize>(fields: Fields) -> Option<Said<U, XI>>
     ensures { result ≡ vector_line U XI (left fields.entry) }
 {
@@ -43,7 +42,7 @@ pub fn vector<const U: usize, const XI: usize>(fields: Fields) -> Option<Said<U,
 }
 
 // failure CODE. As number, with another field and another reply.
-#[tactic(auto, unfolding(crate::specs::StartingLines::failure_line))]
+#[tactic(auto, unfolding(crate::specs::Lines::failure_line))]
 pub fn failure<const U: usize, const XI: usize>(mut fields: Fields) -> Option<Said<U, XI>>
     ensures { result ≡ failure_line U XI (left fields.entry) }
 {
@@ -52,7 +51,7 @@ pub fn failure<const U: usize, const XI: usize>(mut fields: Fields) -> Option<Sa
 }
 
 // lend LENGTH_U LENGTH_XI, of at most U and XI places
-#[tactic(auto, unfolding(crate::specs::StartingLines::lend_line))]
+#[tactic(auto, unfolding(crate::specs::Lines::lend_line))]
 pub fn lend<const U: usize, const XI: usize>(mut fields: Fields) -> Option<Said<U, XI>>
     ensures { result ≡ lend_line U XI (left fields.entry) }
 {

@@ -1,8 +1,13 @@
 // A line as a command.
-use alm_core::alm_cache::AlmSettings;
+#![tactic(auto)]
+
+ghost use Rattle.std.specs.Prelude.{◌≡◌};
+ghost use Rattle.script.specs.Lines.{plain};
+
+use alm_engine::alm_cache::AlmSettings;
+use alm_factory::records::Sizes;
 use arrayvec::ArrayVec;
-use factory::alm_factory::Sizes;
-use panoc_core::panoc_cache::{Reply, Settings};
+use panoc_engine::panoc_cache::{Reply, Settings};
 
 // A start's settings or sizes, less u and xi; an answer, whose vector stands beside it.
 #[derive(Clone, Copy, PartialEq, Debug, Drop)]
@@ -22,4 +27,15 @@ pub struct Said<const U: usize, const XI: usize> {
     pub command: Command,
     pub first: ArrayVec<f64, U>,
     pub second: ArrayVec<f64, XI>,
+}
+
+// A command without floats.
+pub fn alone<const U: usize, const XI: usize>(command: Command) -> Said<U, XI>
+    ensures { result ≡ plain U XI command }
+{
+    Said {
+        command,
+        first: ArrayVec::new(),
+        second: ArrayVec::new(),
+    }
 }

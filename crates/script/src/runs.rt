@@ -4,18 +4,38 @@
 ghost use Rattle.std.specs.Prelude.{◌≡◌};
 ghost use Rattle.words.specs.Fields.{Gives};
 ghost use Rattle.words.specs.LineFieldsLeft.{left};
-ghost use Rattle.script.specs.StartingLines.{sizes_field, inner_line, loop_line};
+ghost use Rattle.script.specs.Lines.{lent_line, sizes_field, inner_line, loop_line};
 
 use crate::command::{Command, Said};
-use crate::starting::lent;
-use alm_core::alm_cache::AlmSettings;
+use alm_engine::alm_cache::AlmSettings;
+use alm_factory::records::Sizes;
 use arrayvec::ArrayVec;
-use factory::alm_factory::Sizes;
-use panoc_core::panoc_cache::Settings;
+use panoc_engine::panoc_cache::Settings;
 use words::line_fields::Fields;
 
+// The floats behind the settings: LENGTH_U U... XI...
+#[tactic(auto, unfolding(crate::specs::Lines::lent_line))]
+pub fn lent<const U: usize, const XI: usize>(
+    mut fields: Fields,
+    command: Command,
+) -> Option<Said<U, XI>>
+    ensures { result ≡ lent_line U XI command (left fields.entry) }
+{
+    let n = fields.whole()?;
+    if n > U as u64 {
+        return None;
+    }
+    let first = fields.floats(n as usize)?;
+    let second = fields.rest()?;
+    Some(Said {
+        command,
+        first,
+        second,
+    })
+}
+
 // inner N M LIMITED TOLERANCE AKKT U...
-#[tactic(auto, unfolding(crate::specs::StartingLines::inner_line))]
+#[tactic(auto, unfolding(crate::specs::Lines::inner_line))]
 pub fn inner<const U: usize, const XI: usize>(mut fields: Fields) -> Option<Said<U, XI>>
     ensures { result ≡ inner_line U XI (left fields.entry) }
 {
@@ -34,7 +54,7 @@ pub fn inner<const U: usize, const XI: usize>(mut fields: Fields) -> Option<Said
 }
 
 // N N1 N2
-#[tactic(auto, unfolding(crate::specs::StartingLines::sizes_field))]
+#[tactic(auto, unfolding(crate::specs::Lines::sizes_field))]
 pub fn sizes(fields: &mut Fields) -> Option<Sizes>
     ensures { Gives (sizes_field (left fields.old)) result (left fields.new) }
 {
@@ -46,7 +66,7 @@ pub fn sizes(fields: &mut Fields) -> Option<Sizes>
 }
 
 // loop N N1 N2 Y M K LIMITED TOLERANCE EPSILON DELTA AKKT PENALTY_FACTOR EPSILON_FACTOR COEFFICIENT LENGTH_U U... XI...
-#[tactic(auto, unfolding(crate::specs::StartingLines::loop_line))]
+#[tactic(auto, unfolding(crate::specs::Lines::loop_line))]
 pub fn outer<const U: usize, const XI: usize>(mut fields: Fields) -> Option<Said<U, XI>>
     ensures { result ≡ loop_line U XI (left fields.entry) }
 {

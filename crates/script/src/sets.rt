@@ -3,7 +3,7 @@
 
 ghost use Rattle.std.specs.Prelude.{◌≡◌};
 ghost use Rattle.words.specs.LineFieldsLeft.{left};
-ghost use Rattle.script.specs.SetsLines.{keyword_of, closed, box_line, ball_line, onto_line, set_meant};
+ghost use Rattle.script.specs.SetLines.{keyword_of, closed, box_line, ball_line, onto_line, set_meant};
 
 use arrayvec::ArrayVec;
 use constraints::cartesian_product::{BALL2, RECTANGLE, Set};
@@ -62,7 +62,7 @@ fn bare(fields: Fields, change: Change) -> Option<SetLine>
 }
 
 // box STRETCH LENGTH_LOWER LENGTH_UPPER X...
-#[tactic(auto, unfolding(crate::specs::SetsLines::box_line))]
+#[tactic(auto, unfolding(crate::specs::SetLines::box_line))]
 fn rectangle(mut fields: Fields) -> Option<SetLine>
     ensures { result ≡ box_line (left fields.entry) }
 {
@@ -86,7 +86,7 @@ fn rectangle(mut fields: Fields) -> Option<SetLine>
 }
 
 // ball STRETCH RADIUS X...
-#[tactic(auto, unfolding(crate::specs::SetsLines::ball_line))]
+#[tactic(auto, unfolding(crate::specs::SetLines::ball_line))]
 fn ball(mut fields: Fields) -> Option<SetLine>
     ensures { result ≡ ball_line (left fields.entry) }
 {
@@ -108,7 +108,7 @@ fn ball(mut fields: Fields) -> Option<SetLine>
 }
 
 // onto X...
-#[tactic(auto, unfolding(crate::specs::SetsLines::onto_line))]
+#[tactic(auto, unfolding(crate::specs::SetLines::onto_line))]
 fn onto(fields: Fields) -> Option<SetLine>
     ensures { result ≡ onto_line (left fields.entry) }
 {
@@ -123,7 +123,7 @@ fn onto(fields: Fields) -> Option<SetLine>
 }
 
 // What a line says of sets, None for any other line and for one of another form.
-#[tactic(auto, unfolding(crate::specs::SetsLines::set_meant, crate::specs::SetsLines::by_words, crate::specs::SetsLines::line_by))]
+#[tactic(auto, unfolding(crate::specs::SetLines::set_meant, crate::specs::SetLines::by_words, crate::specs::SetLines::line_by))]
 pub fn said(line: &[u8]) -> Option<SetLine>
     ensures { result ≡ set_meant line.now }
 {

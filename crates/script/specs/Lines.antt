@@ -1,12 +1,12 @@
--- What a line says: TRANSCRIPT.md, "Calls that start a run" and "Calls that answer". Definitions only.
+-- What a line says: TRANSCRIPT.md, "Starts" and "Answers". Definitions only.
 use Rattle.std.specs.Prelude.{ℕ, List, [], ◌∷◌, Option, Some, None, nat_lt, if◌then◌else◌}
 use Rattle.std.specs.Float.Ieee.{Float}
 use Rattle.words.specs.Splitting.{words_of}
 use Rattle.words.specs.declared.keywords.Keyword.{Keyword}
 use Rattle.script.specs.declared.command.Command.{Command}
 use Rattle.script.specs.declared.command.Said.{Said}
-use Rattle.panoc_core.specs.declared.panoc_cache.Reply.{Reply}
-use Rattle.factory.specs.declared.alm_factory.Sizes.{Sizes}
+use Rattle.panoc_engine.specs.declared.panoc_cache.Reply.{Reply}
+use Rattle.alm_factory.specs.declared.records.Sizes.{Sizes}
 use Rattle.words.specs.Fields.{Left, Field, ◌>>=◌, whole_field, code_field, flag_field, float_field, tolerance_field, floats_field, rest_field}
 use Rattle.words.specs.Keywords.{keyword_of}
 
