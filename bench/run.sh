@@ -17,12 +17,12 @@ if ! command -v "$cc" >/dev/null; then
 fi
 
 archive=${ARCHIVE:-target/staticlib/libpozkerrin.a}
-if [ -z "${ARCHIVE:-}" ] && ! bash crates/host/archive.sh >"$out/archive.log" 2>&1; then
+if [ -z "${ARCHIVE:-}" ] && ! bash host/archive.sh >"$out/archive.log" 2>&1; then
   tail -n 20 "$out/archive.log" >&2
   exit 1
 fi
 
-flags="-std=c11 -D_POSIX_C_SOURCE=200809L -O3 -ffp-contract=off -Wall -Wextra -Werror -Icrates/host/include"
+flags="-std=c11 -D_POSIX_C_SOURCE=200809L -O3 -ffp-contract=off -Wall -Wextra -Werror -Ihost/include"
 compile() { # compile OUTPUT WORDS..
   # shellcheck disable=SC2086
   "$cc" $flags -o "$out/$1" "${@:2}"

@@ -1,9 +1,9 @@
 #!/usr/bin/env bash
 # Builds the archive, and runs its examples with warnings as errors: the C one plain, under sanitizers and under valgrind, the Rust one with its
-# tests. What they print is held to crates/host/examples/kiln.out. A tool that is not here is named, and what needs it is left out.
+# tests. What they print is held to host/examples/kiln.out. A tool that is not here is named, and what needs it is left out.
 set -euo pipefail
 cd "$(dirname "$0")/../.."
-examples=crates/host/examples
+examples=host/examples
 out=target/host
 expected=$examples/kiln.out
 archive=target/staticlib/libpozkerrin.a
@@ -17,7 +17,7 @@ if ! command -v ar >/dev/null; then
   exit 0
 fi
 mkdir -p "$out"
-if ! bash crates/host/archive.sh >"$out/archive.log" 2>&1; then
+if ! bash host/archive.sh >"$out/archive.log" 2>&1; then
   tail -n 20 "$out/archive.log"
   exit 1
 fi
@@ -45,7 +45,7 @@ for compiler in gcc clang; do
     continue
   fi
   # shellcheck disable=SC2086
-  "$compiler" $warnings -Icrates/host/include -o "$out/kiln_$compiler" "$examples/kiln.c" "$archive"
+  "$compiler" $warnings -Ihost/include -o "$out/kiln_$compiler" "$examples/kiln.c" "$archive"
   held "the C example by $compiler" "$out/kiln_$compiler"
   compiled=$out/kiln_$compiler
   sanitize="-g -fsanitize=address,undefined -fno-sanitize-recover=all"
@@ -55,7 +55,7 @@ for compiler in gcc clang; do
     continue
   fi
   # shellcheck disable=SC2086
-  "$compiler" $warnings $sanitize -Icrates/host/include -o "$out/kiln_sanitized" "$examples/kiln.c" "$archive"
+  "$compiler" $warnings $sanitize -Ihost/include -o "$out/kiln_sanitized" "$examples/kiln.c" "$archive"
   held "the C example by $compiler under sanitizers" "$out/kiln_sanitized"
 done
 

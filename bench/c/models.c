@@ -1,6 +1,6 @@
 /* The problems: a cheap quadratic with a box for any n, alone and under the loop, and the kiln. */
 #include "bench.h"
-#include "../../crates/host/examples/kiln_model.h"
+#include "../../host/examples/kiln_model.h"
 
 #include <string.h>
 #include <time.h>

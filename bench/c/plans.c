@@ -1,6 +1,6 @@
 /* plans [ROUNDS]: the time of one kiln plan (24 periods) by each solver that is here, in turn, with the accuracy that it comes to. */
 #include "bench.h"
-#include "../../crates/host/examples/kiln_model.h"
+#include "../../host/examples/kiln_model.h"
 #include "../peers/peers.h"
 #include "pozkerrin.h"
 

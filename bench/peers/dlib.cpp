@@ -1,7 +1,7 @@
 // dlib's box-constrained L-BFGS. Its own loops are quicker on 24 numbers than calls of a BLAS.
 #include <dlib/optimization.h>
 
-#include "../../crates/host/examples/kiln_model.h"
+#include "../../host/examples/kiln_model.h"
 #include "peers.h"
 
 namespace {

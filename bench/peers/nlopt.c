@@ -1,7 +1,7 @@
 /* NLopt's L-BFGS and SLSQP, each made once and used for many plans. */
 #include <nlopt.h>
 
-#include "../../crates/host/examples/kiln_model.h"
+#include "../../host/examples/kiln_model.h"
 #include "peers.h"
 
 static double both(unsigned n, const double *u, double *g, void *data) {

@@ -8,6 +8,6 @@ out=target/inner_compare
 mkdir -p "$out"
 names=(start answer number vector)
 objcopy $(printf -- '--redefine-sym pozkerrin_inner_%s=flat_inner_%s ' $(printf '%s\n' "${names[@]}" | sed 's/.*/& &/')) "$2" "$out/libflat.a"
-${CC:-gcc} -std=c11 -D_GNU_SOURCE -O2 -Wall -Wextra ${WITH_ANSWER:+-DWITH_ANSWER} -Icrates/host/include -Icrates/panoc_c/include -o "$out/compare" \
+${CC:-gcc} -std=c11 -D_GNU_SOURCE -O2 -Wall -Wextra ${WITH_ANSWER:+-DWITH_ANSWER} -Ihost/include -Icrates/panoc_c/include -o "$out/compare" \
   tests/inner_compare/compare.c "$1" "$out/libflat.a" -lm
 "$out/compare" "${@:3}"

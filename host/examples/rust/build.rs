@@ -1,4 +1,4 @@
-//! Links the archive that `crates/host/archive.sh` writes; POZKERRIN_ARCHIVES names another folder.
+//! Links the archive that `host/archive.sh` writes; POZKERRIN_ARCHIVES names another folder.
 
 use std::env;
 use std::path::PathBuf;
@@ -8,7 +8,7 @@ fn main() {
     let folder = env::var_os("POZKERRIN_ARCHIVES").map_or_else(
         || {
             let here = env::var_os("CARGO_MANIFEST_DIR").expect("cargo sets it");
-            PathBuf::from(here).join("../../../../target/staticlib")
+            PathBuf::from(here).join("../../../target/staticlib")
         },
         PathBuf::from,
     );

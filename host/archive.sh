@@ -1,7 +1,7 @@
 #!/usr/bin/env bash
-# The C library, target/staticlib/libpozkerrin.a, out of the crates that export calls, each an object of its own. The header is crates/host/include/pozkerrin.h.
+# The C library, target/staticlib/libpozkerrin.a, out of the crates that export calls, each an object of its own. The header is host/include/pozkerrin.h.
 set -euo pipefail
-cd "$(dirname "$0")/../.."
+cd "$(dirname "$0")/.."
 crates=(constraints_c host_c host_number_c host_vector_c host_loop_number_c host_loop_vector_c)
 bash tools/build.sh "${crates[@]}"
 cd target/staticlib

@@ -9,7 +9,7 @@
  *
  * A start, and then at each PKR_ASKED: the points of the question, and an answer. The functions pkr_* are inline and do no more than take
  * the struct apart; pkr_*_told says what was asked. A refused answer tells its number there, and the question asked before still stands: keep it.
- * Link target/staticlib/libpozkerrin.a, which `bash crates/host/archive.sh` makes. */
+ * Link target/staticlib/libpozkerrin.a, which `bash host/archive.sh` makes. */
 #ifndef POZKERRIN_H
 #define POZKERRIN_H
 #include <stddef.h>
