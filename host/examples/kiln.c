@@ -27,14 +27,13 @@ static void fill_bounds(void) {
   for (size_t i = 0; i < N; i++) bounds[i] = 0, bounds[N + i] = 1;
 }
 
-/* Answers the questions until the run is over; asked counts them by number. A table that is refused is answered as
- * a failure, with its number. */
+/* Answers the questions until none stands or a call gives a number of the table, 0 else; asked counts them by number. A table of sets that
+ * is refused is answered as a failure, with its number. */
 static uint32_t answer_all(pkr_inner *run, uint32_t got, clock_t until, double *plan, unsigned *asked) {
   static kiln_memory memory;
   double v[N];
-  uint32_t refused;
-  while (got == PKR_ASKED) {
-    const uint32_t question = pkr_inner_told(run);
+  uint32_t question, refused;
+  while (got == 0 && (question = pkr_inner_question(run)) != PKR_NO_QUESTION) {
     const double *at = pkr_inner_point(run);
     asked[question]++;
     switch (question) {
@@ -75,8 +74,9 @@ int main(int words, char **word) {
   fill_bounds();
 
   const uint32_t got = answer_all(&run, pkr_inner_start(&run, &settings, plan, N), until, plan, asked);
-  if (got != PKR_ENDED) {
-    fprintf(stderr, "kiln: %s by %" PRIu32 "\n", got == PKR_FAILED ? "failed" : "refused", pkr_inner_told(&run));
+  if (got != 0) {
+    fprintf(stderr, "kiln: refused by %" PRIu32 "\n", got);
+    if (got == PKR_HOST_FAILED) fprintf(stderr, "kiln: the sets are refused by %" PRIu32 "\n", run.inner.told);
     return 1;
   }
 
@@ -85,8 +85,8 @@ int main(int words, char **word) {
   for (size_t i = 0; i < N; i++) {
     printf("%6zu  %8.6f  %8.2f  %8.2f  %016" PRIx64 "\n", i + 1, plan[i], t[i], KILN_CURVE[i], bits_of(plan[i]));
   }
-  printf("end: %s, %zu steps after the first, norm %.3e, cost %.9f\n", ENDS[pkr_inner_told(&run)], pkr_inner_iterations(&run),
-      pkr_inner_norm(&run), pkr_inner_cost(&run));
+  printf("end: %s, %zu steps after the first, norm %.3e, cost %.9f\n", ENDS[run.inner.told], run.inner.end.iterations,
+      run.inner.end.norm_fpr, run.inner.end.cost_value);
   printf("asked: %u cost, %u gradient, %u project, %u direction, %u time\n", asked[PKR_COST], asked[PKR_GRADIENT], asked[PKR_PROJECT],
       asked[PKR_DIRECTION] + asked[PKR_DIRECTION_FORGET], asked[PKR_TIME]);
   return 0;

@@ -1,24 +1,86 @@
 //! The part of `pozkerrin.h` that the wrapper calls. Only `inner.rs` and `sets.rs` use it.
 
-pub type Vector = [f64; 64];
+/// `pkr_inner_end`.
+#[repr(C)]
+#[derive(Clone, Copy)]
+pub struct InnerEnd {
+    pub iterations: usize,
+    pub norm_fpr: f64,
+    pub cost_value: f64,
+}
+
+/// `pkr_inner_fields`.
+#[repr(C)]
+#[derive(Clone)]
+pub struct InnerFields {
+    pub phase: u32,
+    pub outcome: u32,
+    pub told: u32,
+    pub status: u32,
+    pub forget: u32,
+    pub limited: u32,
+    pub has_akkt: u32,
+    pub n: usize,
+    pub max_iter: usize,
+    pub left: usize,
+    pub iterations: usize,
+    pub rounds: usize,
+    pub tolerance: f64,
+    pub akkt_tolerance: f64,
+    pub cost_value: f64,
+    pub lipschitz_constant: f64,
+    pub gamma: f64,
+    pub sigma: f64,
+    pub norm_gamma_fpr: f64,
+    pub best_norm_gamma_fpr: f64,
+    pub tau: f64,
+    pub rhs_ls: f64,
+    pub norm_h: f64,
+    pub end: InnerEnd,
+}
 
 /// `pkr_inner`.
 #[repr(C)]
 #[derive(Clone)]
 pub struct Inner {
-    pub w: [u32; 6],
-    pub k: [usize; 6],
-    pub f: [f64; 13],
-    pub u: Vector,
-    pub u_plus: Vector,
-    pub gradient: Vector,
-    pub previous: Vector,
-    pub step: Vector,
-    pub half: Vector,
-    pub fpr: Vector,
-    pub direction: Vector,
-    pub best: Vector,
+    pub inner: InnerFields,
+    pub board: [f64; 576],
 }
+
+/// A struct of zeros: a run that has ended.
+pub const OVER: Inner = Inner {
+    inner: InnerFields {
+        phase: 0,
+        outcome: 0,
+        told: 0,
+        status: 0,
+        forget: 0,
+        limited: 0,
+        has_akkt: 0,
+        n: 0,
+        max_iter: 0,
+        left: 0,
+        iterations: 0,
+        rounds: 0,
+        tolerance: 0.0,
+        akkt_tolerance: 0.0,
+        cost_value: 0.0,
+        lipschitz_constant: 0.0,
+        gamma: 0.0,
+        sigma: 0.0,
+        norm_gamma_fpr: 0.0,
+        best_norm_gamma_fpr: 0.0,
+        tau: 0.0,
+        rhs_ls: 0.0,
+        norm_h: 0.0,
+        end: InnerEnd {
+            iterations: 0,
+            norm_fpr: 0.0,
+            cost_value: 0.0,
+        },
+    },
+    board: [0.0; 576],
+};
 
 /// `pkr_set`.
 #[repr(C)]
@@ -41,9 +103,7 @@ extern "C" {
     ) -> u32;
 
     pub fn pozkerrin_inner_start(
-        w: *mut [u32; 6],
-        k: *mut [usize; 6],
-        f: *mut [f64; 13],
+        run: *mut Inner,
         n: usize,
         max_iter: usize,
         limited: u32,
@@ -52,13 +112,10 @@ extern "C" {
         akkt_tolerance: f64,
         at: *const f64,
         ats: usize,
-        u: *mut Vector,
     ) -> u32;
 
     pub fn pozkerrin_inner_answer(
-        w: *mut [u32; 6],
-        k: *mut [usize; 6],
-        f: *mut [f64; 13],
+        run: *mut Inner,
         kind: u32,
         x: f64,
         code: u32,
@@ -66,32 +123,17 @@ extern "C" {
         vs: usize,
         plan: *mut f64,
         plans: usize,
-        u: *mut Vector,
-        u_plus: *mut Vector,
-        gradient: *mut Vector,
-        previous: *mut Vector,
-        step: *mut Vector,
-        half: *mut Vector,
-        fpr: *mut Vector,
-        direction: *mut Vector,
-        best: *mut Vector,
     ) -> u32;
 
-    pub fn pozkerrin_inner_place(w: *const [u32; 6]) -> u32;
+    pub fn pozkerrin_inner_question(run: *const Inner) -> u32;
+
+    pub fn pozkerrin_inner_place(run: *const Inner) -> u32;
 
     pub fn pozkerrin_inner_points(
-        w: *const [u32; 6],
-        k: *const [usize; 6],
-        f: *const [f64; 13],
+        run: *const Inner,
         first: *mut f64,
         firsts: usize,
         second: *mut f64,
         seconds: usize,
-        u: *const Vector,
-        u_plus: *const Vector,
-        step: *const Vector,
-        half: *const Vector,
-        fpr: *const Vector,
-        best: *const Vector,
     ) -> u32;
 }

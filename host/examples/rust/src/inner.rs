@@ -56,28 +56,12 @@ pub(crate) fn lent_mut<'a>(v: &'a mut [f64], none: &'a mut f64) -> (*mut f64, us
 impl Inner {
     /// Begins a solve at `u`: a run and its first question, or a refusal by 1, 19 (`u` is not finite), 3 or 4.
     pub fn start(settings: &Settings, u: &[f64]) -> Result<(Inner, Question), Refusal> {
-        let zeros = [0.0; 64];
-        let mut raw = ffi::Inner {
-            w: [0; 6],
-            k: [0; 6],
-            f: [0.0; 13],
-            u: zeros,
-            u_plus: zeros,
-            gradient: zeros,
-            previous: zeros,
-            step: zeros,
-            half: zeros,
-            fpr: zeros,
-            direction: zeros,
-            best: zeros,
-        };
+        let mut raw = ffi::OVER;
         let (at, ats) = lent(u);
-        // SAFETY: each pointer is to a place of its own; `at` has `ats` places.
-        let got = unsafe {
+        // SAFETY: the run is a place of its own; `at` has `ats` places.
+        let number = unsafe {
             ffi::pozkerrin_inner_start(
-                &mut raw.w,
-                &mut raw.k,
-                &mut raw.f,
+                &mut raw,
                 settings.n,
                 settings.max_iter,
                 settings.limited.into(),
@@ -86,14 +70,12 @@ impl Inner {
                 settings.akkt_tolerance.unwrap_or(0.0),
                 at,
                 ats,
-                &mut raw.u,
             )
         };
         let run = Inner { raw };
-        match run.outcome(got) {
-            Outcome::Asked(question) => Ok((run, question)),
-            _ => Err(Refusal::from_number(run.raw.w[1])),
-        }
+        run.question()
+            .map(|question| (run, question))
+            .ok_or(Refusal::from_number(number))
     }
 
     /// Answers the question. The plan is written at an end alone.
@@ -108,32 +90,25 @@ impl Inner {
         let mut none = 0.0;
         let (v, vs) = lent(vector);
         let (plan, plans) = lent_mut(plan, &mut none);
-        let raw = &mut self.raw;
         // SAFETY: each pointer is to a place of its own, since the slices are borrowed beside `&mut self`; lengths are the slices' own.
-        let got = unsafe {
-            ffi::pozkerrin_inner_answer(
-                &mut raw.w,
-                &mut raw.k,
-                &mut raw.f,
-                kind,
-                x,
-                code,
-                v,
-                vs,
-                plan,
-                plans,
-                &mut raw.u,
-                &mut raw.u_plus,
-                &mut raw.gradient,
-                &mut raw.previous,
-                &mut raw.step,
-                &mut raw.half,
-                &mut raw.fpr,
-                &mut raw.direction,
-                &mut raw.best,
-            )
+        let number = unsafe {
+            ffi::pozkerrin_inner_answer(&mut self.raw, kind, x, code, v, vs, plan, plans)
         };
-        self.outcome(got)
+        self.outcome(number)
+    }
+
+    /// The question that stands, at any time; none once the run has ended.
+    pub fn question(&self) -> Option<Question> {
+        // SAFETY: the run is read only.
+        match unsafe { ffi::pozkerrin_inner_question(&self.raw) } {
+            0 => Some(Question::Cost),
+            1 => Some(Question::Gradient),
+            2 => Some(Question::Project),
+            3 => Some(Question::Direction { forget: false }),
+            4 => Some(Question::Direction { forget: true }),
+            5 => Some(Question::Time),
+            _ => None,
+        }
     }
 
     /// Copies the points of the question, or refuses by 6 or 8. DIRECTION alone has a second point, TIME has none.
@@ -141,71 +116,38 @@ impl Inner {
         let (mut none, mut other) = (0.0, 0.0);
         let (first, firsts) = lent_mut(first, &mut none);
         let (second, seconds) = lent_mut(second, &mut other);
-        let raw = &self.raw;
         // SAFETY: as above; the run is read only.
-        let refused = unsafe {
-            ffi::pozkerrin_inner_points(
-                &raw.w,
-                &raw.k,
-                &raw.f,
-                first,
-                firsts,
-                second,
-                seconds,
-                &raw.u,
-                &raw.u_plus,
-                &raw.step,
-                &raw.half,
-                &raw.fpr,
-                &raw.best,
-            )
-        };
-        if refused == 0 {
-            Ok(())
-        } else {
-            Err(Refusal::from_number(refused))
+        match unsafe { ffi::pozkerrin_inner_points(&self.raw, first, firsts, second, seconds) } {
+            0 => Ok(()),
+            number => Err(Refusal::from_number(number)),
         }
     }
 
     /// The first point of the question where it lies in the run; a call that changes the run must wait until the borrow ends. TIME and a run that
     /// has ended have none, and then it says nothing.
     pub fn point(&self) -> &[f64] {
-        let raw = &self.raw;
-        // SAFETY: the pointer is to the run's own numbers, which are read only.
-        let held = match unsafe { ffi::pozkerrin_inner_place(&raw.w) } {
-            1 => &raw.u_plus,
-            2 => &raw.step,
-            3 => &raw.half,
-            4 => &raw.fpr,
-            5 => &raw.best,
-            _ => &raw.u,
-        };
-        &held[..raw.k[3].min(64)]
+        // SAFETY: the run is read only.
+        let vector = unsafe { ffi::pozkerrin_inner_place(&self.raw) } as usize;
+        &self.raw.board[64 * vector..][..self.raw.inner.n.min(64)]
     }
 
-    fn outcome(&self, got: u32) -> Outcome {
-        let told = self.raw.w[1];
-        match got {
-            0 => Outcome::Asked(match told {
-                0 => Question::Cost,
-                1 => Question::Gradient,
-                2 => Question::Project,
-                3 => Question::Direction { forget: false },
-                4 => Question::Direction { forget: true },
-                _ => Question::Time,
-            }),
-            1 => Outcome::Ended(Status {
-                end: match told {
+    /// What an answer that gave this number of the table has told.
+    fn outcome(&self, number: u32) -> Outcome {
+        let told = &self.raw.inner;
+        match (number, self.question()) {
+            (0, Some(question)) => Outcome::Asked(question),
+            (0, None) => Outcome::Ended(Status {
+                end: match told.told {
                     0 => End::Converged,
                     1 => End::Iterations,
                     _ => End::OutOfTime,
                 },
-                iterations: self.raw.k[5],
-                norm: self.raw.f[11],
-                cost: self.raw.f[12],
+                iterations: told.end.iterations,
+                norm: told.end.norm_fpr,
+                cost: told.end.cost_value,
             }),
-            2 => Outcome::Refused(Refusal::from_number(told)),
-            _ => Outcome::Failed(told),
+            (9, _) => Outcome::Failed(told.told),
+            _ => Outcome::Refused(Refusal::from_number(number)),
         }
     }
 }

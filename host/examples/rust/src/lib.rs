@@ -22,7 +22,7 @@
 //! ```compile_fail,E0616
 //! # use pozkerrin::{Answer, Inner, Settings};
 //! # let (mut run, _) = Inner::start(&Settings::new(2, 10, 1e-6), &[0.0, 0.0]).unwrap();
-//! run.raw.u[0] = 1.0;
+//! run.raw.board[0] = 1.0;
 //! ```
 //!
 //! The same lines with a place of its own for each are taken:
@@ -36,6 +36,7 @@
 //! assert_eq!(point, [0.0, 0.0]);
 //! let kind = Refusal::from_number(7);
 //! assert_eq!(run.answer(Answer::Vector(&point), &mut plan), Outcome::Refused(kind));
+//! assert_eq!(run.question(), Some(Question::Cost));
 //! assert_eq!(run.answer(Answer::Number(1.0), &mut plan), Outcome::Asked(Question::Gradient));
 //! ```
 

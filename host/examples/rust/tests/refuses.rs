@@ -119,6 +119,7 @@ fn answers_of_another_kind_or_length_leave_the_run() {
     let mut plan = [9.0; 3];
     for answer in [Answer::Vector(&[0.0; 3]), Answer::Yes, Answer::No] {
         assert_eq!(refused(run.answer(answer, &mut plan)), 7);
+        assert_eq!(run.question(), Some(Question::Cost));
     }
     for places in [0, 2, 4, 64, 100] {
         let mut other = vec![9.0; places];
@@ -130,6 +131,7 @@ fn answers_of_another_kind_or_length_leave_the_run() {
     for places in [0, 2, 4, 65, 1000] {
         let v = vec![1.0; places];
         assert_eq!(refused(run.answer(Answer::Vector(&v), &mut plan)), 8);
+        assert_eq!(run.question(), Some(Question::Gradient));
     }
     let outcome = run.answer(Answer::Vector(&[1.0; 3]), &mut plan);
     assert_eq!(outcome, Outcome::Asked(Question::Gradient));
@@ -144,6 +146,7 @@ fn a_failure_comes_back_and_ends_the_run() {
         run.answer(Answer::Failure(77), &mut plan),
         Outcome::Failed(77)
     );
+    assert_eq!(run.question(), None);
     assert_eq!(refused(run.answer(Answer::Number(1.0), &mut plan)), 6);
     assert_eq!(
         run.points(&mut [0.0; 3], &mut []),
@@ -224,7 +227,11 @@ fn the_point_where_it_lies() {
         asked += 1;
         outcome = match question {
             Question::Cost => {
-                let c: f64 = first.iter().zip([1.0, 4.0, 9.0]).map(|(x, a)| a * x * x).sum();
+                let c: f64 = first
+                    .iter()
+                    .zip([1.0, 4.0, 9.0])
+                    .map(|(x, a)| a * x * x)
+                    .sum();
                 run.answer(Answer::Number(c), &mut plan)
             }
             Question::Gradient => {
