@@ -3,3 +3,4 @@
 #![tactic(auto)]
 
 pub mod answer;
+pub mod start;

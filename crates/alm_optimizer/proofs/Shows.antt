@@ -237,3 +237,39 @@ module _ (s : Alm) (l xs ys : List Float) (o : Std.Option Located) (e : pair_of 
           sym (by_pair ∙ rw (d, z, a, b) refl)
 
 pub ruleset points = (points_over, points_first, points_second, first_room, second_room, points_shown)
+
+-- ---- the second point alone
+module _ (s : Alm) (l ys : List Float) (o : Std.Option Located) (e : pair_of (Answer.question_of (loop_run s l)) ≡ lying s.set o l) where
+  alone_by : (q : Option LoopQuestion) → shown Answer.no_point second_point q [] ys ≡ shown (λ (q : List Float × List Float). []) (λ (q : List Float × List Float). q.1) (pair_of q) [] ys
+  unfolding shown
+  alone_by none = refl
+  alone_by (some q) = refl
+
+  alone : Answer.second_alone (loop_run s l) ys ≡ shown (λ (q : List Float × List Float). []) (λ (q : List Float × List Float). q.1) (lying s.set o l) [] ys
+  unfolding Answer.second_alone
+  alone = alone_by (Answer.question_of (loop_run s l)) ∙ ap (λ (x : Option (List Float × List Float)). shown (λ (q : List Float × List Float). []) (λ (q : List Float × List Float). q.1) x [] ys) e
+
+  pub second_over : o ≡ Std.None → (let w : Shown = record { number = 6; first = []; second = ys } in w) ≡ Answer.second_alone (loop_run s l) ys
+  unfolding shown
+  second_over d = sym (alone ∙ rw d refl)
+
+  module _ (p : Located) (d : o ≡ Std.Some p) (b : Bool) (f : b ≡ eqb (length ys) (second_places s.set p.second)) where
+    fits : eqb (length ys) (length (second_in s.set p.second l)) ≡ b
+    fits = let a = second_size s.set p.second l in rw (a, f) refl
+
+    pub second_short : b ≡ false → (let w : Shown = record { number = 8; first = []; second = ys } in w) ≡ Answer.second_alone (loop_run s l) ys
+    unfolding shown
+    second_short g = let z = fits ∙ g in sym (alone ∙ rw (d, z) refl)
+
+    module _ (g : b ≡ true) where
+      pub alone_room : roomy s.set o → length ys ≤ 64
+      alone_room r = second_room s l (vector p.from p.places l) ys o e p d (length_vector p.from p.places l) b f g r
+
+      pub second_shown : (ys' : List Float) → ys' ≡ second_filled p.second l ys → (let w : Shown = record { number = 0; first = []; second = ys' } in w) ≡ Answer.second_alone (loop_run s l) ys
+      unfolding shown
+      second_shown ys' y =
+          let z = fits ∙ g in
+          let a = y ∙ second_is s.set p.second l ys (eqb-true (length ys) (second_places s.set p.second) (sym f ∙ g)) in
+          sym (alone ∙ rw (d, z, a) refl)
+
+pub ruleset seconds = (second_over, second_short, alone_room, second_shown)

@@ -1,6 +1,6 @@
 // The points of the question of a run.
-ghost use Rattle.std.specs.Prelude.{◌≡◌, ◌≤◌, List, Float, length, eqb};
-ghost use Rattle.machine.specs.LoopAnswer.{points, question_of};
+ghost use Rattle.std.specs.Prelude.{◌≡◌, ◌≤◌, List, [], Float, length, eqb};
+ghost use Rattle.machine.specs.LoopAnswer.{points, second_alone, question_of};
 ghost use Rattle.alm_engine.specs.LoopRuns.{loop_run};
 ghost use Rattle.alm_optimizer.specs.Points.{point, inner_points, own_points, second_filled, second_places, pair_of, lying, roomy, shows};
 
@@ -141,7 +141,22 @@ pub fn points_in_place(
     Ok(())
 }
 
-// Those of a run by value.
+// The second point alone, copied.
+#[tactic(auto, using(crate::proofs::Shows::seconds))]
+pub fn second_in_place(s: Alm, board: &[f64; 768], second: &mut [f64]) -> Result<(), Refusal>
+    ensures { shows result [] second.new ≡ second_alone (loop_run s board.now) second.old }
+{
+    let Some(p) = points_at(s) else {
+        return Err(Refusal::Over);
+    };
+    if !second_fits(s.set, p.second, second.len()) {
+        return Err(Refusal::Lengths);
+    }
+    give_second(p.second, board, second);
+    Ok(())
+}
+
+// The points of a run by value.
 pub fn points(run: &AlmRun, first: &mut [f64], second: &mut [f64]) -> Result<(), Refusal>
     ensures { shows result first.new second.new ≡ points (loop_run run.now.alm run.now.board) first.old second.old }
 {

@@ -81,7 +81,7 @@ pub fn start_refusal(set: AlmSettings, u: &[f64], xi: &[f64]) -> Option<Refusal>
 
 // The penalty, 0 where it is empty.
 #[tactic(auto, using(ieee::proofs::Special::zero_bits), unfolding(model::specs::Refusals::penalty_in))]
-fn penalty_in(xi: &[f64]) -> f64
+pub fn penalty_in(xi: &[f64]) -> f64
     ensures { result ≡ R.penalty_in xi.now }
 {
     match xi {
@@ -92,7 +92,7 @@ fn penalty_in(xi: &[f64]) -> f64
 
 // The multipliers, none where it is empty.
 #[tactic(auto, unfolding(model::specs::Refusals::multipliers_in))]
-fn multipliers_in(xi: &[f64]) -> &[f64]
+pub fn multipliers_in(xi: &[f64]) -> &[f64]
     ensures { result.now ≡ R.multipliers_in xi.now }
 {
     match xi {

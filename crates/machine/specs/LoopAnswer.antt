@@ -1,5 +1,5 @@
 -- What the public calls of the multiplier loop leave, refused or not, as functions of the run. So a call in any form promises one equation. Definitions only.
-use Rattle.std.specs.Prelude.{ℕ, ◌-◌, cond, List, Float, length}
+use Rattle.std.specs.Prelude.{ℕ, ◌-◌, cond, List, [], Float, length}
 use Rattle.std.proofs.Math.Option.{Option, none, some}
 use Rattle.std.specs.Float.{Format}
 use Rattle.ieee.specs.Numbers.{null}
@@ -138,3 +138,10 @@ start f s u xi r =
 -- ---- points: xs and ys are the lent slices
 unfoldable pub points : Run → List Float → List Float → Shown
 points r xs ys = shown first_point second_point (question_of r) xs ys
+
+-- the second point alone: as if the first had no place
+abbrev pub no_point : LoopQuestion → List Float
+no_point q = []
+
+unfoldable pub second_alone : Run → List Float → Shown
+second_alone r ys = shown no_point second_point (question_of r) [] ys

@@ -65,6 +65,16 @@ second_point (LoopQuestion.project_c t) = []
 second_point (LoopQuestion.f2 u) = []
 second_point (LoopQuestion.cost u xi) = xi
 
+-- what DIRECTION has as its second, no place for another question
+abbrev pub direction_point : LoopQuestion → List Float
+direction_point (LoopQuestion.inner xi q) = Inner.second_point q
+direction_point LoopQuestion.time = []
+direction_point (LoopQuestion.project_y y) = []
+direction_point (LoopQuestion.f1 u) = []
+direction_point (LoopQuestion.project_c t) = []
+direction_point (LoopQuestion.f2 u) = []
+direction_point (LoopQuestion.cost u xi) = []
+
 -- points: xs, ys and xs', ys' are the lent slices before and after
 abbrev pub Points : Format → Run → List Float → List Float → List Float → List Float → ℕ → Type 0
 Points f r xs xs' ys ys' k = Shows first_point second_point (asking (rest f r)) xs xs' ys ys' k
