@@ -1,1 +1,3 @@
 pub mod StartLaws
+pub mod PlaceLaws
+pub mod StandLaws

@@ -41,7 +41,7 @@ fn is_counted(inner: &InnerFields, alm: &AlmFields) -> bool
 }
 
 // Whether a start made the run.
-fn is_sound(inner: &InnerFields, alm: &AlmFields) -> bool
+pub fn is_sound(inner: &InnerFields, alm: &AlmFields) -> bool
     ensures { (l : List Float) → result ≡ sound (loop_run_at inner.now alm.now l) }
 {
     is_sized(inner, alm) && (is_last(phase_at(alm.phase)) || is_counted(inner, alm))
