@@ -1,16 +1,13 @@
 -- Every list of calls for C of psi, and of d_psi, meets the claim. Assumes nothing.
 use Rattle.std.proofs.Common.{◌≡◌, refl, ap, sym, subst, ◌∙◌, ℕ, zero, suc, true, List, length, eqb, Float}
 use Rattle.std.proofs.Math.Option.{Option, none, some}
-use Rattle.std.proofs.lemmas.List.{length-replicate}
 use Rattle.std.specs.Float.{binary64}
-use Rattle.model.specs.Psi as S
-use Rattle.model.specs.Refusals.{Reply, psi_refusal}
+use Rattle.model.specs.Refusals.{Reply}
 use Rattle.machine.specs.Told as Say
 use Rattle.machine.specs.Waits.{any_refusal}
 use Rattle.machine.specs.Numbers.{table_number}
 use Rattle.machine.specs.PsiRun.{PsiRun, PsiLeft, DPsiRun, DPsiLeft, refuses}
-use Rattle.machine.specs.PsiCalls.{waits, psi_kind_at, d_psi_kind_at, ruled, psi_answer, d_psi_answer, psi_answer_any, d_psi_answer_any, handed_out, DPsiStarts}
-use Rattle.machine.proofs.PsiLaws as PsiLaw
+use Rattle.machine.specs.PsiCalls.{waits, psi_kind_at, d_psi_kind_at, ruled, psi_answer, d_psi_answer, psi_answer_any, d_psi_answer_any, handed_out}
 use Rattle.alm_factory.specs.declared.records.Sizes.{Sizes}
 use Rattle.alm_factory.specs.Values.{sizes_of}
 use Rattle.alm_factory.specs.Runs.{psi_run, d_psi_run}
@@ -19,7 +16,7 @@ use Rattle.claim.specs.Psi.{psi_runs, PsiClaim, d_psi_runs, DPsiClaim}
 use Rattle.claim.specs.ForC.{CallC, Meet, ClaimC}
 use Rattle.claim.proofs.ForC.{Sound, claim_for_c}
 use Rattle.claim.proofs.PsiProof.{psi_claim, d_psi_claim}
-use Rattle.claim.proofs.Played.{psi_met, Own, d_psi_met, d_psi_owns}
+use Rattle.claim.proofs.Played.{psi_met, Own, begun_owns, d_psi_met, d_psi_owns}
 use Rattle.alm_factory_c.specs.declared.psi.PsiC.{PsiC}
 use Rattle.alm_factory_c.specs.declared.d_psi.DPsiC.{DPsiC}
 use Rattle.alm_factory_c.specs.Fields.{psi_of, psi_refusal_of, PsiLeaves, PsiBegins, d_psi_of, d_psi_refusal_of, DPsiLeaves, DPsiBegins}
@@ -114,14 +111,6 @@ d_psi_sound =
       numbered = λ was c l. (d_psi_same was c l).number;
     }
 
--- y and t have the places of F1 where a start is accepted
-begun_owns : (s : S.Sizes) (u xi : List Float) (l : DPsiLeft) → DPsiStarts s u xi l → table_number l.told ≡ 0 → Own binary64 l.run
-begun_owns s u xi l starts e = by (psi_refusal s (length u) (length xi)) refl
-  where
-    by : (n : ℕ) → psi_refusal s (length u) (length xi) ≡ n → Own binary64 l.run
-    by zero z = subst (λ (x : DPsiLeft). Own binary64 x.run) (sym (starts.accepted z)) ((PsiLaw.started s (length u) xi z).multipliers, length-replicate _ _)
-    by (suc m) z = let q : ◌≡◌ {A = ℕ} (suc m) 0 = sym (ap table_number ((starts.refused m z).0)) ∙ e in absurd cc
-
 -- After a start that got the number 0, whatever list of calls follows.
 pub d_psi_c_claim : (s : Sizes) (u xi : List Float) (is : DPsiC) → DPsiBegins s u xi is 0 → (cs : List (CallC DPsiC (List Float))) → Meet d_psi_c is cs → ClaimC d_psi_c (DPsiClaim binary64 (sizes_of s) u xi) is cs
 d_psi_c_claim s u xi is b cs m =
@@ -129,4 +118,4 @@ d_psi_c_claim s u xi is b cs m =
     (λ ds t h.
     subst (λ (r : DPsiRun). DPsiClaim binary64 (sizes_of s) u xi r ds t) (sym b.kept.run)
     (d_psi_claim binary64 (sizes_of s) u xi b.left b.starts (sym b.kept.number) (subst (λ (r : DPsiRun). History (d_psi_runs binary64) r ds t) b.kept.run h)))
-    (subst (Own binary64) (sym b.kept.run) (begun_owns (sizes_of s) u xi b.left b.starts (sym b.kept.number))) cs m
+    (subst (Own binary64) (sym b.kept.run) (begun_owns binary64 (sizes_of s) u xi b.left b.starts (sym b.kept.number))) cs m

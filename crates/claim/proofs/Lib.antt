@@ -7,3 +7,4 @@ pub mod LoopProof
 pub mod PsiProof
 pub mod Played
 pub mod ForC
+pub mod Kept

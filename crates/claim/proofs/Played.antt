@@ -1,6 +1,6 @@
 -- The claim holds for every list of answers, whatever they are, that is played on a machine from an accepted start. Assumes nothing.
 use Rattle.std.specs.Prelude.{ℕ, zero, suc, ◌≡◌, refl, Bool, true, false, cond, List, [], ◌∷◌, ◌++◌, eqb, Float, length}
-use Rattle.std.proofs.Common.{subst}
+use Rattle.std.proofs.Common.{ap, sym, subst, ◌∙◌}
 use Rattle.std.proofs.Math.Option.{Option, none, some}
 use Rattle.std.proofs.lemmas.List.{length-replicate}
 use Rattle.std.specs.Float.{Format}
@@ -21,7 +21,7 @@ use Rattle.machine.specs.LoopMoves.{begins, iteration, inner_solve}
 use Rattle.machine.specs.Numbers.{table_number}
 use Rattle.machine.specs.PsiRun.{PsiRun, PsiLeft, DPsiPhase, DPsiRun, DPsiLeft}
 use Rattle.machine.specs.PsiMoves.{d_psi_ask_f2, d_psi_got_gradient, d_psi_got_f1, d_psi_got_projection, d_psi_got_jf1t, d_psi_got_f2, d_psi_got_jf2t, d_psi_move}
-use Rattle.machine.specs.PsiCalls.{psi_begun, psi_answer_any, d_psi_begun, d_psi_kind_at, ruled, d_psi_refuses, handed_out, d_psi_answer, d_psi_answer_any}
+use Rattle.machine.specs.PsiCalls.{DPsiStarts, psi_begun, psi_answer_any, d_psi_begun, d_psi_kind_at, ruled, d_psi_refuses, handed_out, d_psi_answer, d_psi_answer_any}
 use Rattle.machine.specs.Machines.{Places, psi_start, d_psi_start}
 use Rattle.machine.proofs.InnerAnswers as InnerLaw
 use Rattle.machine.proofs.LoopAnswers as LoopLaw
@@ -191,6 +191,14 @@ module _ (f : Format) where
       by : (k : ℕ) → d_psi_refuses r a (length v) (length us) ≡ k → Own (ruled k r (d_psi_move f r.phase a v r)).run
       by zero e = move_own r r.phase a v (eqb (length us) r.sizes.n) o (PsiLaw.accepted_at d_psi_kind_at r.sizes r.phase a (length v) (eqb (length us) r.sizes.n) e).1
       by (suc k) e = o
+
+  -- so they have where a start is accepted
+  pub begun_owns : (s : Sizes) (u xi : List Float) (l : DPsiLeft) → DPsiStarts s u xi l → table_number l.told ≡ 0 → Own l.run
+  begun_owns s u xi l starts e = by (psi_refusal s (length u) (length xi)) refl
+    where
+      by : (n : ℕ) → psi_refusal s (length u) (length xi) ≡ n → Own l.run
+      by zero z = subst (λ (x : DPsiLeft). Own x.run) (sym (starts.accepted z)) ((PsiLaw.started s (length u) xi z).multipliers, length-replicate _ _)
+      by (suc m) z = let q : ◌≡◌ {A = ℕ} (suc m) 0 = sym (ap table_number ((starts.refused m z).0)) ∙ e in absurd cc
 
   pub d_psi_meets : (r : DPsiRun) (a : Option Reply) (v us : List Float) → Own r → let l = d_psi_answer_any f a v us r in AnswersAny (d_psi_runs f) r a v us (handed_out l us) l.told l.run
   unfolding saying d_psi_answer_any Say.given

@@ -9,3 +9,4 @@ pub mod Loop
 pub mod Psi
 pub mod Played
 pub mod ForC
+pub mod Kept

@@ -1,19 +1,17 @@
 -- psi and d_psi: one call more, and the whole run. Assumes nothing.
 use Rattle.std.proofs.Common.{◌≡◌, refl, ap, sym, subst, ◌∙◌, ℕ, zero, suc, List, [], length, Float}
 use Rattle.std.proofs.Math.Option.{some}
-use Rattle.std.proofs.lemmas.List.{length-replicate}
 use Rattle.std.specs.Float.{binary64}
 use Rattle.model.specs.Psi.{Sizes}
 use Rattle.model.specs.Refusals.{Reply, psi_refusal}
 use Rattle.machine.specs.Told as Say
 use Rattle.machine.specs.PsiRun.{Asked, PsiRun, PsiLeft, DPsiRun, DPsiLeft}
 use Rattle.machine.specs.PsiCalls.{PsiStarts, DPsiStarts, psi_answer, psi_answer_any, d_psi_answer, d_psi_answer_any, handed_out}
-use Rattle.machine.proofs.PsiLaws as PsiLaw
 use Rattle.claim.specs.History.{AnswersAny}
 use Rattle.claim.specs.Psi.{psi_runs, d_psi_runs}
 use Rattle.claim.specs.Played as P
 use Rattle.claim.proofs.PsiProof.{psi_claim, psi_no_run, d_psi_claim, d_psi_no_run}
-use Rattle.claim.proofs.Played.{psi_met, Own, d_psi_met, d_psi_owns}
+use Rattle.claim.proofs.Played.{psi_met, Own, begun_owns, d_psi_met, d_psi_owns}
 use Rattle.whole_runs.specs.Feed.{Fed}
 use Rattle.whole_runs.specs.Whole.{Psi, DPsi}
 use Rattle.whole_runs.proofs.Feeds.{ran_refused, ran_fed}
@@ -62,7 +60,7 @@ module _ (s : Sizes) (u xi : List Float) (l : DPsiLeft) (starts : DPsiStarts s u
   own_begun k = by (psi_refusal s (length u) (length xi)) refl
     where
       by : (n : ℕ) → psi_refusal s (length u) (length xi) ≡ n → Own binary64 l.run
-      by zero z = subst (λ (x : DPsiLeft). Own binary64 x.run) (sym (starts.accepted z)) ((PsiLaw.started s (length u) xi z).multipliers, length-replicate _ _)
+      by zero z = begun_owns binary64 s u xi l starts (rw (d_psi_asks z) refl)
       by (suc m) z = absurd (k (suc m) ((starts.refused m z).0))
 
   module _ (us : List Float) (list : List P.Answer) where
