@@ -3,3 +3,4 @@ pub mod Solves
 pub mod Loops
 pub mod Penalties
 pub mod ForC
+pub mod LoopForC
