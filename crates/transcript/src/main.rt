@@ -1,21 +1,33 @@
 // The transcript program: it makes the engine's calls one by one, as its input says, and prints what each gave. See TRANSCRIPT.md.
 #![tactic(auto)]
 
-mod answers;
-mod reading;
+ghost use Rattle.transcript.specs.Plays.{LineTurns};
 
-use answers::answered;
-use script::command::{Command, Said};
+mod answering;
+mod inner;
+mod names;
+mod outer;
+mod output;
+mod penalty;
+mod play;
+mod reading;
+mod starting;
+mod table;
+
+use answering::answered;
+use output::{Line, alone};
+use play::Play;
 use reading::{heard, heard_of_sets, next};
+use script::command::{Command, Said};
+use starting::{opened, start_d_psi, start_inner, start_outer, start_psi};
 use std::io;
 use std::io::{BufReader, BufWriter, Write};
-use transcript_lines::output::{Line, alone};
-use transcript_sets::Table;
-use transcript_starts::{d_psi, inner, opened, outer, psi};
-use transcript_state::Play;
+use table::Table;
 
 // What a line says is done; gives what is printed of it. Each command has its own data, and so an arm of its own.
-fn turn(play: &mut Play, table: &mut Table, line: &[u8]) -> Line {
+fn turn(play: &mut Play, table: &mut Table, line: &[u8]) -> Line
+    ensures { LineTurns line.now play.old table.old play.new table.new result.items }
+{
     if let Some(said) = heard_of_sets(line) {
         return table.turn(&said);
     }
@@ -28,10 +40,10 @@ fn turn(play: &mut Play, table: &mut Table, line: &[u8]) -> Line {
         second: xi,
     } = said;
     let (next, told) = match command {
-        Command::Inner(set) => inner(set, u),
-        Command::Loop(set) => outer(set, u, xi),
-        Command::Psi(sizes) => psi(sizes, u, xi),
-        Command::DPsi(sizes) => d_psi(sizes, u, xi),
+        Command::Inner(set) => start_inner(set, u),
+        Command::Loop(set) => start_outer(set, u, xi),
+        Command::Psi(sizes) => start_psi(sizes, u, xi),
+        Command::DPsi(sizes) => start_d_psi(sizes, u, xi),
         Command::Answer(reply) => return answered(play, reply, u.as_slice()),
         Command::Lend(us, xis) => return play.lend(us, xis),
         Command::Show => return play.show(),

@@ -1,7 +1,12 @@
 // The next line of the input, and what a line says.
-use script::sets::SetLine;
+ghost use Rattle.std.specs.Prelude.{◌≡◌};
+ghost use Rattle.script.specs.Lines.{meant};
+ghost use Rattle.script.specs.SetLines.{set_meant};
+ghost use Rattle.transcript.specs.Plays.{heard};
+
 use script::command::Said;
 use script::said;
+use script::sets::SetLine;
 use std::io;
 use std::io::{BufRead, Read};
 
@@ -24,7 +29,9 @@ pub fn next(input: &mut impl BufRead, line: &mut Vec<u8>) -> io::Result<bool> {
 }
 
 // What a line says; of another form is one that is too long, too.
-pub fn heard(line: &[u8]) -> Option<Said<128, 128>> {
+pub fn heard(line: &[u8]) -> Option<Said<128, 128>>
+    ensures { result ≡ heard (meant 128 128) line.now }
+{
     if line.len() > LONGEST {
         None
     } else {
@@ -33,7 +40,9 @@ pub fn heard(line: &[u8]) -> Option<Said<128, 128>> {
 }
 
 // What a line says of sets, in the same way.
-pub fn heard_of_sets(line: &[u8]) -> Option<SetLine> {
+pub fn heard_of_sets(line: &[u8]) -> Option<SetLine>
+    ensures { result ≡ heard set_meant line.now }
+{
     if line.len() > LONGEST {
         None
     } else {

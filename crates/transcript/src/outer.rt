@@ -1,0 +1,127 @@
+// What is printed of a call of the loop.
+ghost use Rattle.std.specs.Prelude.{◌≡◌, ◌≤◌, length, min};
+ghost use Rattle.model.specs.Refusals.{xi_length};
+ghost use Rattle.alm_engine.specs.Values.{loop_settings_of, loop_asked_of, loop_numbers_of};
+ghost use Rattle.alm_engine.specs.LoopRuns.{loop_run};
+ghost use Rattle.alm_optimizer.specs.Calls.{loop_gave};
+ghost use Rattle.transcript.specs.Texts.{loop_name, loop_then, loop_first, loop_second, loop_asked, loop_ended, loop_line};
+
+use crate::output::{Line, ended, failed, places, refused, shown};
+use crate::{inner, names};
+use alm_engine::alm_cache::{
+    AlmAnswered, AlmOptimizerStatus, AlmOutcome, AlmQuestion, AlmRun, AlmSettings,
+};
+use alm_optimizer::showing::points;
+use panoc_engine::panoc_cache::Question;
+use words::line_printing::{put_counted, put_floats};
+
+// What a call gave.
+#[tactic(auto, unfolding(crate::specs::Texts::loop_line, crate::specs::Texts::told_text))]
+pub fn told(r: &AlmAnswered) -> Line
+    ensures { result.items ≡ loop_line (loop_gave r.now) }
+{
+    match r.outcome {
+        AlmOutcome::Asked(question) => put_asked(question, &r.run),
+        AlmOutcome::Ended(status) => put_ended(status),
+        AlmOutcome::Refused(refusal) => refused(refusal),
+        AlmOutcome::Failed(code) => failed(code),
+    }
+}
+
+// The word of a question.
+fn name(question: AlmQuestion) -> &'static [u8]
+    ensures word { result.now ≡ loop_name (loop_asked_of question) }
+    ensures most { length result.now ≤ 11 }
+{
+    match question {
+        AlmQuestion::Inner(inner) => names::name(inner),
+        AlmQuestion::Time => b"time",
+        AlmQuestion::ProjectY => b"project_y",
+        AlmQuestion::F1 => b"f1",
+        AlmQuestion::ProjectC => b"project_c",
+        AlmQuestion::F2 => b"f2",
+        AlmQuestion::Cost => b"cost",
+    }
+}
+
+// The word before its second point: COST and GRADIENT of the inner solve come with xi, too.
+fn then(question: AlmQuestion) -> &'static [u8]
+    ensures word { result.now ≡ loop_then (loop_asked_of question) }
+    ensures most { length result.now ≤ 11 }
+{
+    match question {
+        AlmQuestion::Inner(Question::Cost | Question::Gradient) | AlmQuestion::Cost => b" xi",
+        AlmQuestion::Inner(inner) => names::then(inner),
+        _ => b"",
+    }
+}
+
+// How many places its first point has.
+fn first_places(question: AlmQuestion, set: AlmSettings) -> usize
+    ensures { result ≡ loop_first (loop_settings_of set) (loop_asked_of question) }
+{
+    match question {
+        AlmQuestion::Inner(inner) => inner::first_places(inner, set.n),
+        AlmQuestion::Time => 0,
+        AlmQuestion::ProjectY | AlmQuestion::ProjectC => set.n1,
+        AlmQuestion::F1 | AlmQuestion::F2 | AlmQuestion::Cost => set.n,
+    }
+}
+
+// How many a xi has, at most 64: none where n1 = n2 = 0, else the penalty and n1 multipliers.
+#[tactic(auto, unfolding(model::specs::Refusals::xi_length))]
+fn xi_places(n1: usize, n2: usize) -> usize
+    ensures { result ≡ min (xi_length n1 n2) 64 }
+{
+    if n1 == 0 && n2 == 0 {
+        0
+    } else {
+        n1.min(63) + 1
+    }
+}
+
+// How many its second point has, at most 64.
+fn second_places(question: AlmQuestion, set: AlmSettings) -> usize
+    ensures { result ≡ min (loop_second (loop_settings_of set) (loop_asked_of question)) 64 }
+{
+    match question {
+        AlmQuestion::Inner(Question::Cost | Question::Gradient) | AlmQuestion::Cost => {
+            xi_places(set.n1, set.n2)
+        }
+        AlmQuestion::Inner(inner) => inner::second_places(inner, set.n).min(64),
+        _ => 0,
+    }
+}
+
+// A question, with its points.
+fn put_asked(question: AlmQuestion, run: &AlmRun) -> Line
+    ensures { result.items ≡ loop_asked (loop_run run.now.alm run.now.board) (loop_asked_of question) }
+{
+    let set = run.alm.set;
+    let n = first_places(question, set).min(64);
+    let m = second_places(question, set);
+    let mut p = places();
+    let mut q = places();
+    let first = &mut p[..n];
+    let second = &mut q[..m];
+    let done = points(run, first, second);
+    shown(done, name(question), first, then(question), second)
+}
+
+// ended END OUTER INNER NORM COST C DELTA_Y F2
+#[tactic(auto, unfolding(crate::specs::Texts::loop_ended))]
+fn put_ended(status: AlmOptimizerStatus) -> Line
+    ensures { result.items ≡ loop_ended (loop_numbers_of status) }
+{
+    let mut line = ended(status.exit_status, status.num_outer_iterations.0);
+    put_counted(b" ", status.num_inner_iterations.0 as u64, &mut line);
+    let numbers = [
+        status.last_problem_norm_fpr,
+        status.cost,
+        status.penalty,
+        status.delta_y_norm,
+        status.f2_norm,
+    ];
+    put_floats(&numbers, &mut line);
+    line
+}
