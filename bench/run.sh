@@ -1,6 +1,7 @@
 #!/usr/bin/env bash
 # run.sh [ROUNDS]: measures the C library beside the original Rust and other solvers, in one run on one machine, and prints tables in Markdown.
-# What is not here (cargo, the Rust source, dlib, NLopt) is named and left out. ARCHIVE names an archive that is built already.
+# What is not here (cargo, the Rust source, dlib, NLopt) is named and left out. ARCHIVE names an archive that is built already. OLD names an older one to
+# measure beside it, and OLD_INCLUDE the folder of its header.
 set -euo pipefail
 cd "$(dirname "$0")/.."
 rounds=${1:-2000}
@@ -29,6 +30,18 @@ compile() { # compile OUTPUT WORDS..
 }
 compile models.o -c bench/c/models.c
 compile library.o -c bench/c/library.c
+
+# the older archive: its calls, and the functions that make them, get names of their own
+old=()
+if [ -n "${OLD:-}" ]; then
+  host=bench/c/library.c
+  if grep -q pkr_w6 "${OLD_INCLUDE:?OLD wants OLD_INCLUDE, the folder of its header}/pozkerrin.h"; then host=bench/c/arrays.c; fi
+  "$cc" ${flags/host\/include/$OLD_INCLUDE} -c -o "$out/old.o" "$host"
+  { nm -g --defined-only "$OLD" | awk '$2 == "T" { print $3, "old_" $3 }'; printf 'library_%s old_%s\n' inner inner loop loop psi psi d_psi d_psi; } >"$out/old.names"
+  objcopy --redefine-syms="$out/old.names" "$out/old.o"
+  objcopy --redefine-syms="$out/old.names" "$OLD" "$out/libold.a"
+  old=(-DHAVE_OLD "$out/old.o" "$out/libold.a")
+fi
 
 # the original Rust, with its files copied beside our stand-ins
 rust=()
@@ -61,13 +74,13 @@ fi
 processor=$(sed -n 's/^model name[^:]*: //p' /proc/cpuinfo | head -n 1)
 echo "Processor: ${processor:-unknown}, $(nproc) in use, load $(cut -d ' ' -f 1 /proc/loadavg). $("$cc" --version | head -n 1). $(rustc --version 2>/dev/null || echo 'No rustc')."
 echo
-echo "### Beside the original Rust"
+echo "### The engine"
 echo
-if [ ${#rust[@]} -gt 0 ]; then
-  compile engine_times bench/c/engine.c "$out/library.o" "$out/models.o" "$archive" "${rust[@]}" -lm
-  "$out/engine_times" "$rounds"
-else
-  echo "Not measured: there is no cargo, or no Rust source at ../shared/docs/src."
+compile engine_times bench/c/engine.c "$out/library.o" "$out/models.o" "$archive" "${old[@]}" "${rust[@]}" -lm
+"$out/engine_times" "$rounds"
+if [ ${#rust[@]} -eq 0 ]; then
+  echo
+  echo "Not beside the Rust: there is no cargo, or no Rust source at ../shared/docs/src."
 fi
 echo
 echo "### A kiln plan, 24 periods"
@@ -89,7 +102,7 @@ echo "Bytes of the archive: $(stat -c %s "$archive"); of its code and constants:
 echo
 echo "### Ready-made sets"
 echo
-compile sets bench/c/sets.c "$out/models.o" "$archive" -lm
+compile sets bench/c/sets.c "$out/models.o" "$archive" "${old[@]}" -lm
 "$out/sets" "$rounds"
 echo
 echo "### Calls by value inside Rattle"

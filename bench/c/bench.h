@@ -16,6 +16,9 @@ typedef struct {
   void (*f1)(const double *u, double *f, size_t n);
   void (*f2)(const double *u, double *f, size_t n);
   void (*project_c)(const double *p, double *q, size_t n1);
+  /* For d_psi: the transposed Jacobian products. */
+  void (*jf1t)(const double *u, const double *d, double *g, size_t n);
+  void (*jf2t)(const double *u, const double *d, double *g, size_t n);
 } callbacks;
 
 typedef struct {
@@ -24,7 +27,7 @@ typedef struct {
   double u[64], xi[33];
 } task;
 
-/* All of it is compared bit by bit. */
+/* All of it is compared bit by bit. psi ends with cost, and d_psi with plan. */
 typedef struct {
   uint64_t end, inner, outer;
   double norm, cost, penalty, delta_y, f2;
@@ -35,15 +38,16 @@ extern const callbacks quadratic, kiln;
 task quadratic_task(size_t n);
 task kiln_task(void);
 
-/* Through the C library. asked, where it is not NULL, gets one for each question, by its number. */
-void library_inner(const callbacks *c, const task *t, result *r, size_t *asked);
-void library_loop(const callbacks *c, const task *t, result *r, size_t *asked);
+/* An inner solve, a loop, psi and d_psi through the C library, and through an older one. asked, where it is not NULL, gets one for each question, by its number. */
+typedef void solver(const callbacks *c, const task *t, result *r, size_t *asked);
+solver library_inner, library_loop, library_psi, library_d_psi;
+solver old_inner, old_loop, old_psi, old_d_psi;
 
-/* Through the original Rust. A cache is made once and used for many solves, as its authors advise. */
+/* The same through the original Rust. A cache is made once and used for many solves, as its authors advise. */
 void *rust_inner_new(const task *t);
-void rust_inner(void *cache, const callbacks *c, const task *t, result *r);
 void *rust_loop_new(const task *t);
-void rust_loop(void *cache, const callbacks *c, const task *t, result *r);
+typedef void rust_solver(void *cache, const callbacks *c, const task *t, result *r);
+rust_solver rust_inner, rust_loop, rust_psi, rust_d_psi;
 
 /* Time. */
 double now_ns(void);

@@ -87,8 +87,21 @@ static void quadratic_d_psi(const double *u, const double *xi, double *g, size_t
   g[n - 1] = g[n - 1] + xi[0] * f2;
 }
 
+static void small_jf1t(const double *u, const double *d, double *g, size_t n) {
+  (void)u;
+  memset(g, 0, n * sizeof *g);
+  g[0] = d[0];
+  g[n / 2] = d[1];
+}
+
+static void small_jf2t(const double *u, const double *d, double *g, size_t n) {
+  (void)u;
+  memset(g, 0, n * sizeof *g);
+  g[1] = g[n - 1] = d[0];
+}
+
 const callbacks quadratic = {quadratic_cost, quadratic_gradient, quadratic_project, plain_direction, quadratic_psi, quadratic_d_psi,
-    small_f1, small_f2, small_project_c};
+    small_f1, small_f2, small_project_c, small_jf1t, small_jf2t};
 
 task quadratic_task(size_t n) {
   for (size_t i = 0; i < 64; i++) {

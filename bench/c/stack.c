@@ -88,10 +88,9 @@ static const struct {
     {"pkr_loop_number", loop_number}, {"pkr_loop_vector", loop_vector}};
 static size_t most[CALLS];
 
-static uint32_t make(size_t which) {
+static void make(size_t which) {
   const size_t bytes = used(calls[which].call);
   if (bytes > most[which]) most[which] = bytes;
-  return got;
 }
 
 /* The call that takes the answer: that for any kind, or in every other turn that for its kind, where there is one. */
@@ -129,7 +128,7 @@ static void answer(uint32_t question, int wild) {
   for (size_t i = 0; i < 64; i++) v[i] = any();
 }
 
-static void play(int runs, size_t start, uint32_t (*told)(void), int in_loop, int d) {
+static void play(int runs, size_t start, uint32_t (*asked)(void), int in_loop, int d) {
   for (int i = 0; i < runs; i++) {
     const int wild = i % 2;
     n = wild ? 1 + next() % 64 : 4 * (1 + next() % 16);
@@ -142,31 +141,31 @@ static void play(int runs, size_t start, uint32_t (*told)(void), int in_loop, in
     loop_settings = (pkr_loop_settings){n, n1, n2, n1 > 0 && next() % 2, 1 + next() % 30, 1 + next() % 6, next() % 2, 1e-6, 1e-6, 1e-6, 1e-2, 5,
         0.1, 0.1};
     if (next() % 50 == 0) inner_settings.tolerance = loop_settings.tolerance = 0;
-    uint32_t gave = make(start);
-    for (int turn = 0; turn < 20000 && (gave == PKR_ASKED || next() % 3); turn++) {
-      const uint32_t question = told();
+    make(start);
+    for (int turn = 0; turn < 20000 && (asked() != PKR_NO_QUESTION || next() % 3); turn++) {
+      const uint32_t question = asked();
       choose(question, in_loop, d);
       make(start + 1);
       answer(question, wild);
-      gave = make(taker(start));
+      make(taker(start));
     }
   }
 }
 
-static uint32_t inner_told(void) { return pkr_inner_told(&inner); }
-static uint32_t loop_told(void) { return pkr_loop_told(&loop); }
-static uint32_t psi_told(void) { return pkr_psi_told(&psi); }
-static uint32_t d_psi_told(void) { return pkr_d_psi_told(&d_psi); }
+static uint32_t inner_question(void) { return pkr_inner_question(&inner); }
+static uint32_t loop_question(void) { return pkr_loop_question(&loop); }
+static uint32_t psi_question(void) { return pkr_psi_question(&psi); }
+static uint32_t d_psi_question(void) { return pkr_d_psi_question(&d_psi); }
 
 int main(int words, char **word) {
   const int runs = words > 1 ? atoi(word[1]) : 400;
   quadratic_task(64); /* sets the model's numbers */
   memset(stack, PAINT, SIZE);
   for (int i = 0; i < 100; i++) make(0);
-  play(runs, 1, inner_told, 0, 0);
-  play(runs / 4, 4, loop_told, 1, 0);
-  play(runs, 7, psi_told, 0, 1);
-  play(runs, 10, d_psi_told, 0, 1);
+  play(runs, 1, inner_question, 0, 0);
+  play(runs / 4, 4, loop_question, 1, 0);
+  play(runs, 7, psi_question, 0, 1);
+  play(runs, 10, d_psi_question, 0, 1);
   puts("| call | bytes of stack, most seen |");
   puts("|---|---|");
   for (size_t i = 1; i < CALLS; i++) printf("| `%s` | %zu |\n", calls[i].name, most[i] - most[0]);

@@ -27,13 +27,14 @@ static void fill_bounds(void) {
   for (size_t i = 0; i < N; i++) bounds[i] = 0, bounds[N + i] = 1;
 }
 
-/* Answers the questions until none stands or a call gives a number of the table, 0 else; asked counts them by number. A table of sets that
- * is refused is answered as a failure, with its number. */
+/* Answers the questions until the run has ended, and gives what the last call gave; asked counts them by number. A table of sets that is refused
+ * is answered as a failure, with its number. */
 static uint32_t answer_all(pkr_inner *run, uint32_t got, clock_t until, double *plan, unsigned *asked) {
   static kiln_memory memory;
   double v[N];
-  uint32_t question, refused;
-  while (got == 0 && (question = pkr_inner_question(run)) != PKR_NO_QUESTION) {
+  uint32_t refused;
+  while (got == 0 && run->inner.outcome == PKR_ASKED) {
+    const uint32_t question = run->inner.told;
     const double *at = pkr_inner_point(run);
     asked[question]++;
     switch (question) {

@@ -1,28 +1,29 @@
 /* Pozkerrin for C: the inner solve, the multiplier loop, psi and d_psi as runs that hand out a question and take an answer.
  *
  * What a user does. A run is a struct that the host keeps. A start puts its first question; then, question by question, the host looks at the
- * point, works out what is asked and answers, until no question stands:
+ * point, works out what is asked and answers, until the run asks no more:
  *
  *     pkr_inner run;
- *     uint32_t question, got = pkr_inner_start(&run, &settings, u, n);
- *     while (got == 0 && (question = pkr_inner_question(&run)) != PKR_NO_QUESTION) {
+ *     uint32_t got = pkr_inner_start(&run, &settings, u, n);
+ *     while (got == 0 && run.inner.outcome == PKR_ASKED) {
  *       const double *at = pkr_inner_point(&run);
- *       switch (question) {
+ *       switch (run.inner.told) {
  *         case PKR_COST: got = pkr_inner_number(&run, cost(at), plan, n); break;
  *         case PKR_GRADIENT: gradient(at, v); got = pkr_inner_vector(&run, v, n, plan, n); break;
  *         case PKR_PROJECT: project(at, v); got = pkr_inner_vector(&run, v, n, plan, n); break;
  *         case PKR_TIME: got = pkr_inner_decision(&run, time_is_left(), plan, n); break;
- *         default: direction(question == PKR_DIRECTION_FORGET, at, pkr_inner_u(&run), v); got = pkr_inner_vector(&run, v, n, plan, n); break;
+ *         case PKR_DIRECTION: direction(at, pkr_inner_u(&run), v); got = pkr_inner_vector(&run, v, n, plan, n); break;
+ *         case PKR_DIRECTION_FORGET: forget(); direction(at, pkr_inner_u(&run), v); got = pkr_inner_vector(&run, v, n, plan, n); break;
  *       }
  *     }
- *     if (got == 0) run.inner.told is the end, run.inner.end has its numbers, and the plan is in plan.
+ *     if (got == 0) { run.inner.told is the end, run.inner.end has its numbers, and the plan is in plan }
  *
  * What a call returns: 0 where it is taken, and then the run asks on or has ended with a plan; 9 where the host has answered with a failure; else the
- * number of a refusal, all listed below. A start that is refused, a failure, and a refusal by 10 to 18 leave a run that has ended. An answer refused
- * by 6 to 8 writes nothing, no byte of the run and no lent place: the question still stands, and pkr_*_question and pkr_*_points give it at any time.
+ * number of a refusal; all are listed below. A start that is refused, a failure, and a refusal by 10 to 18 leave a run that has ended. An answer refused
+ * by 6 to 8 writes nothing, no byte of the run and no lent place: the question still stands.
  *
  * What stands in the run: outcome and told are what the last call that wrote has told. PKR_ASKED: told is the question. PKR_ENDED: the end. PKR_REFUSED:
- * the number. PKR_FAILED: the host's code.
+ * the number. PKR_FAILED: the host's code. pkr_*_question and pkr_*_points read the question and its points at any time, of any struct.
  *
  * Units. Lengths count doubles, not bytes. Points, costs and gradients are in the units of the host's model. The tolerance is held against the norm of
  * u less its half step, in units of u; AKKT and epsilon tolerances are in units of the gradient, delta in those of F1 and F2. The engine has no clock.
@@ -30,8 +31,8 @@
  * Duties of the caller. Each pointer is to as many places as its length says, to one place and never NULL where the length is 0. The lent places
  * overlap neither each other nor the run. A run is in one call at a time; it may be copied as a struct, and the copy is a run of its own.
  *
- * Any struct is answered. A struct of zeros is a run that has ended: no question stands, and an answer gets 6. One that no start made is answered as a
- * run that has ended, where its phase or a size is none, or by the process that its numbers stand for. Every number passed is answered, NaN too.
+ * Any struct is answered. A struct of zeros is a run that has ended: pkr_*_question gives PKR_NO_QUESTION, an answer gets 6. One that no start made is
+ * answered as a run that has ended, where it has no such phase or size, or by the process that its numbers stand for. So is every number passed, NaN too.
  *
  * A call reads and writes the run and the lent places, and nothing else: no heap, no state besides, at most a few KB of stack. The functions pkr_* are
  * inline and take the structs apart. Link target/staticlib/libpozkerrin.a, which `bash host/archive.sh` makes. */
@@ -297,7 +298,7 @@ static inline uint32_t pkr_inner_failure(pkr_inner *r, uint32_t code, double *pl
   return pozkerrin_inner_answer(r, PKR_FAILURE, 0, code, &none, 0, plan, plans);
 }
 
-/* The question that stands, or PKR_NO_QUESTION. */
+/* The question that stands, PKR_NO_QUESTION where the run has ended. */
 static inline uint32_t pkr_inner_question(const pkr_inner *r) { return pozkerrin_inner_question(r); }
 
 /* Copies the points of the question: 0, or 6 (ended) or 8 (a slice not as long as its point). */
@@ -357,7 +358,7 @@ static inline uint32_t pkr_loop_failure(pkr_loop *r, uint32_t code, double *plan
   return pozkerrin_loop_answer(r, PKR_FAILURE, 0, code, &none, 0, plan, plans, xi, xis);
 }
 
-/* The question that stands, or PKR_NO_QUESTION. */
+/* The question that stands, PKR_NO_QUESTION where the run has ended. */
 static inline uint32_t pkr_loop_question(const pkr_loop *r) { return pozkerrin_loop_question(r); }
 
 /* Copies the points of the question: 0, or 6 (ended) or 8 (a slice not as long as its point). */
@@ -395,7 +396,7 @@ static inline uint32_t pkr_psi_answer(pkr_psi *r, uint32_t kind, double x, uint3
   return pozkerrin_psi_answer(r, kind, x, code, v, vs);
 }
 
-/* The question that stands, or PKR_NO_QUESTION. */
+/* The question that stands, PKR_NO_QUESTION where the run has ended. */
 static inline uint32_t pkr_psi_question(const pkr_psi *r) { return pozkerrin_psi_question(r); }
 
 /* Copies the point of the question; no question has a second one. */
@@ -416,7 +417,7 @@ static inline uint32_t pkr_d_psi_answer(pkr_d_psi *r, uint32_t kind, double x, u
   return pozkerrin_d_psi_answer(r, kind, x, code, v, vs, result, results);
 }
 
-/* The question that stands, or PKR_NO_QUESTION. */
+/* The question that stands, PKR_NO_QUESTION where the run has ended. */
 static inline uint32_t pkr_d_psi_question(const pkr_d_psi *r) { return pozkerrin_d_psi_question(r); }
 
 /* Copies the points of the question: a product has a vector as its second. */

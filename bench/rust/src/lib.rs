@@ -1,6 +1,6 @@
 //! The original Rust engine behind the calls of `c/bench.h`.
 
-use optimization_engine::alm::{self, AlmCache, AlmOptimizer, AlmProblem};
+use optimization_engine::alm::{self, AlmCache, AlmFactory, AlmOptimizer, AlmProblem};
 use optimization_engine::constraints::Constraint;
 use optimization_engine::core::ExitStatus;
 use optimization_engine::panoc::{PANOCCache, PANOCOptimizer};
@@ -8,6 +8,7 @@ use optimization_engine::{FunctionCallResult, Problem};
 
 type Projection = extern "C" fn(*const f64, *mut f64, usize);
 type Mapping = extern "C" fn(*const f64, *mut f64, usize);
+type Product = extern "C" fn(*const f64, *const f64, *mut f64, usize);
 
 /// `callbacks` of bench.h.
 #[repr(C)]
@@ -21,6 +22,8 @@ pub struct Callbacks {
     f1: Mapping,
     f2: Mapping,
     project_c: Projection,
+    jf1t: Product,
+    jf2t: Product,
 }
 
 /// `task` of bench.h.
@@ -172,4 +175,55 @@ pub extern "C" fn rust_loop(cache: &mut AlmCache, c: &Callbacks, t: &Task, r: &m
     let y = status.lagrange_multipliers().as_ref().expect("n1 > 0");
     r.y[..t.n1].copy_from_slice(y);
     r.delta_y = alm::delta_y_norm(cache);
+}
+
+/// psi or d_psi: what their factory is made of, and then one call.
+macro_rules! factory {
+    ($c:expr, $t:expr) => {{
+        let c = $c;
+        let cost = |u: &[f64], x: &mut f64| {
+            *x = (c.cost)(u.as_ptr(), u.len());
+            Ok(())
+        };
+        let mapping = |f: Mapping| {
+            move |u: &[f64], x: &mut [f64]| {
+                f(u.as_ptr(), x.as_mut_ptr(), u.len());
+                Ok(())
+            }
+        };
+        let product = |f: Product| {
+            move |u: &[f64], d: &[f64], x: &mut [f64]| {
+                f(u.as_ptr(), d.as_ptr(), x.as_mut_ptr(), u.len());
+                Ok(())
+            }
+        };
+        AlmFactory::new(
+            cost,
+            mapping(c.gradient),
+            Some(mapping(c.f1)),
+            Some(product(c.jf1t)),
+            Some(mapping(c.f2)),
+            Some(product(c.jf2t)),
+            Some(Set(c.project_c)),
+            $t.n2,
+        )
+    }};
+}
+
+/// One psi; it has no cache.
+#[no_mangle]
+pub extern "C" fn rust_psi(_: &mut PANOCCache, c: &Callbacks, t: &Task, r: &mut Outcome) {
+    let factory = factory!(c, t);
+    factory
+        .psi(&t.u[..t.n], &t.xi[..1 + t.n1], &mut r.cost)
+        .expect("psi ends");
+}
+
+/// One d_psi.
+#[no_mangle]
+pub extern "C" fn rust_d_psi(_: &mut PANOCCache, c: &Callbacks, t: &Task, r: &mut Outcome) {
+    let factory = factory!(c, t);
+    factory
+        .d_psi(&t.u[..t.n], &t.xi[..1 + t.n1], &mut r.plan[..t.n])
+        .expect("d_psi ends");
 }
