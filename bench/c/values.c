@@ -53,7 +53,7 @@ static void f1_kept(const double *u, double *f, size_t n) { quadratic.f1(u, f, n
 static void f2_kept(const double *u, double *f, size_t n) { quadratic.f2(u, f, n), record(1, f); }
 static void project_c_kept(const double *p, double *q, size_t n1) { quadratic.project_c(p, q, n1), record((uint32_t)n1, q); }
 
-static const callbacks recorder = {cost_kept, gradient_kept, project_kept, direction_kept, psi_kept, d_psi_kept, f1_kept, f2_kept, project_c_kept};
+static const callbacks recorder = {cost_kept, gradient_kept, project_kept, direction_kept, psi_kept, d_psi_kept, f1_kept, f2_kept, project_c_kept, NULL, NULL};
 
 #ifdef HAVE_RUST
 static const double *next;
@@ -71,7 +71,7 @@ static void d_psi_again(const double *u, const double *xi, double *g, size_t n) 
 static void f1_again(const double *u, double *f, size_t n) { (void)u, (void)n, give(f, 2); }
 static void f2_again(const double *u, double *f, size_t n) { (void)u, (void)n, give(f, 1); }
 
-static const callbacks player = {cost_again, vector_again, vector_again, direction_again, psi_again, d_psi_again, f1_again, f2_again, vector_again};
+static const callbacks player = {cost_again, vector_again, vector_again, direction_again, psi_again, d_psi_again, f1_again, f2_again, vector_again, NULL, NULL};
 #endif
 
 /* ---- time */
