@@ -102,8 +102,8 @@ def answer(line):
     return {
         "number": lambda: f"number {atom(rest[0])}",
         "vector": lambda: f"vector {vector(rest)}",
-        "yes": lambda: "yea",
-        "no": lambda: "nay",
+        "yes": lambda: "answer_yes",
+        "no": lambda: "answer_no",
         "failure": lambda: f"failure {rest[0]}",
     }[kind]()
 
@@ -239,7 +239,7 @@ use Rattle.model.specs.Process as Asks
 use Rattle.model.specs.Process.{{handed, refused, failed, converged, not_converged_iterations, not_converged_out_of_time}}
 use Rattle.model.specs.Refusals.{{start_inner, start_loop, start_psi, start_d_psi}}
 use Rattle.model.specs.Play.{{asked, ended, turned}}
-use Rattle.model.specs.Script.{{int, ◌·2^◌, ◌/2^◌, only, number, vector, yea, nay, failure, says, ◌▷◌, all_inner, all_loop, all_psi}}
+use Rattle.model.specs.Script.{{int, ◌·2^◌, ◌/2^◌, only, number, vector, answer_yes, answer_no, failure, says, ◌▷◌, all_inner, all_loop, all_psi}}
 use Rattle.corners.specs.Shown.{{Shows, spoken}}
 """
 

@@ -6,7 +6,7 @@ use alm_fields::answering::answer_accepted;
 use alm_fields::calls::{hand_out, lent_fits, waits};
 use alm_fields::fields::AlmC;
 use panoc_engine::refusals::refusal;
-use panoc_fields::numbers::{reply_at, strange_number};
+use panoc_fields::numbers::{number_of_no_kind, reply_at};
 
 // An answer to the question of a run, by its kind: 0 the number x, 1 the vector v, 2 yes, 3 no, 4 the failure code; a plan, and the penalty with the multipliers, go into the lent slices.
 // 6 to 8 where it is refused: then nothing is written; 9 for a failure.
@@ -24,7 +24,7 @@ pub extern "C" fn pozkerrin_loop_answer(
 {
     let wanted = waits(&run.inner, &run.alm);
     let Some(a) = reply_at(kind, x, code) else {
-        return strange_number(wanted);
+        return number_of_no_kind(wanted);
     };
     let fits = lent_fits(&run.alm, plan.len(), xi.len());
     if let Some(refusal) = refusal(wanted, a, v.len(), fits) {

@@ -56,9 +56,9 @@ pub over_points : (s : Psi) (l xs ys : List Float) → s.phase ≡ P.Over → Po
 unfolding psi_run psi_resume
 over_points s l xs ys e = points_none _ xs ys (rest_over (psi_resume binary64) (psi_run s l) (ap (λ (z : PsiPhase). psi_resume binary64 (psi_run s l) (psi_phase_of z)) e))
 
-pub wild_points : (s : Psi) (l xs ys : List Float) → sound (sizes_of s.sizes) ≡ false → Points (psi_rest binary64 (psi_run s l)) xs xs ys ys 6
+pub unsound_points : (s : Psi) (l xs ys : List Float) → sound (sizes_of s.sizes) ≡ false → Points (psi_rest binary64 (psi_run s l)) xs xs ys ys 6
 unfolding psi_run
-wild_points s l xs ys h = points_none _ xs ys (rest_wild (psi_resume binary64) (psi_run s l) h)
+unsound_points s l xs ys h = points_none _ xs ys (rest_wild (psi_resume binary64) (psi_run s l) h)
 
 -- ---- d_psi
 module _ (s : DPsi) (l xs xs' ys ys' : List Float) (k : ℕ) (h : sound (sizes_of s.sizes) ≡ true) where
@@ -100,6 +100,6 @@ pub d_wild_points : (s : DPsi) (l xs ys : List Float) → sound (sizes_of s.size
 unfolding d_psi_run
 d_wild_points s l xs ys h = points_none _ xs ys (rest_wild (d_psi_resume binary64) (d_psi_run s l) h)
 
-pub ruleset psi_points = (sound_n, sound_n1, over_points, wild_points)
+pub ruleset psi_points = (sound_n, sound_n1, over_points, unsound_points)
 
 pub ruleset d_psi_points = (sound_n, sound_n1, sound_n2, d_over_points, d_wild_points)

@@ -7,7 +7,7 @@ use Rattle.model.specs.Process.{Kind}
 use Rattle.model.specs.Refusals.{Reply, answer_refusal}
 use Rattle.board.specs.Board.{vector}
 use Rattle.machine.specs.Told.{given}
-use Rattle.machine.specs.Waits.{strange, any_refusal}
+use Rattle.machine.specs.Waits.{of_no_kind, any_refusal}
 use Rattle.machine.specs.Numbers.{table_number}
 use Rattle.machine.specs.PsiNumbers.{psi_phase_number, d_psi_phase_number}
 use Rattle.machine.specs.PsiRun as M
@@ -79,11 +79,11 @@ module _ (was : PsiC) (a : Option Reply) (v : List Float) (w : Option Kind) (s :
   e : w ≡ waits psi_kind_at (sizes_of (psi_small was).sizes) (psi_phase_of (psi_small was).phase)
   e = d ∙ ap (λ (t : Psi). waits psi_kind_at (sizes_of t.sizes) (psi_phase_of t.phase)) i
 
-  pub psi_strange : (number : ℕ) → none ≡ a → number ≡ strange w → PsiLeaves a v was was number
+  pub psi_strange : (number : ℕ) → none ≡ a → number ≡ of_no_kind w → PsiLeaves a v was was number
   unfolding any_refusal
   psi_strange number q z =
       subst (λ (o : Option Reply). PsiLeaves o v was was number) q
-      (record { refused = λ k t. (z ∙ ap strange e ∙ t, refl); accepted = λ t. absurd (strange_some _ t) })
+      (record { refused = λ k t. (z ∙ ap of_no_kind e ∙ t, refl); accepted = λ t. absurd (strange_some _ t) })
 
   pub psi_refused : (b : Reply) (f : Refusal) → some b ≡ a → refusal_number f ≡ answer_refusal w b (length v) true → PsiLeaves a v was was (refusal_number f)
   unfolding any_refusal
@@ -131,11 +131,11 @@ d_psi_kept was is s m b number e k =
     })
 
 module _ (was : DPsiC) (a : Option Reply) (v us : List Float) (w : Option Kind) (e : w ≡ waits d_psi_kind_at (sizes_of (d_psi_small was).sizes) (d_psi_phase_of (d_psi_small was).phase)) where
-  pub d_psi_strange : (number : ℕ) → none ≡ a → number ≡ strange w → DPsiLeaves a v us us was was number
+  pub d_psi_strange : (number : ℕ) → none ≡ a → number ≡ of_no_kind w → DPsiLeaves a v us us was was number
   unfolding any_refusal
   d_psi_strange number q z =
       subst (λ (o : Option Reply). DPsiLeaves o v us us was was number) q
-      (record { refused = λ k t. (z ∙ ap strange e ∙ t, refl, refl); accepted = λ t. absurd (strange_some _ t) })
+      (record { refused = λ k t. (z ∙ ap of_no_kind e ∙ t, refl, refl); accepted = λ t. absurd (strange_some _ t) })
 
   pub d_psi_refused : (b : Reply) (f : Refusal) → some b ≡ a → refusal_number f ≡ answer_refusal w b (length v) (eqb (length us) was.n) → DPsiLeaves a v us us was was (refusal_number f)
   unfolding any_refusal

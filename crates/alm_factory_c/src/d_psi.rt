@@ -19,7 +19,7 @@ use alm_factory::starts::d_psi_start_in_place;
 use alm_factory::waits::{d_psi_waits, is_sound};
 use panoc_engine::refusals::refusal;
 use panoc_fields::numbers::{
-    ASKED, ENDED, FAILED, FAILURE, NO_QUESTION, REFUSED, number_in, reply_at, strange_number,
+    ASKED, ENDED, FAILED, FAILURE, NO_QUESTION, REFUSED, number_in, number_of_no_kind, reply_at,
 };
 
 // A run of d_psi, as PsiC has one of psi. Its numbers go into the lent result.
@@ -127,7 +127,7 @@ pub extern "C" fn pozkerrin_d_psi_answer(
     let s = small(run);
     let wanted = d_psi_waits(s);
     let Some(a) = reply_at(kind, x, code) else {
-        return strange_number(wanted);
+        return number_of_no_kind(wanted);
     };
     let fits = res.len() == run.n;
     if let Some(refusal) = refusal(wanted, a, v.len(), fits) {

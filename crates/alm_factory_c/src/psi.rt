@@ -17,7 +17,7 @@ use alm_factory::starts::psi_start_in_place;
 use alm_factory::waits::{is_sound, psi_waits};
 use panoc_engine::refusals::refusal;
 use panoc_fields::numbers::{
-    ASKED, ENDED, FAILED, FAILURE, NO_QUESTION, REFUSED, number_in, reply_at, strange_number,
+    ASKED, ENDED, FAILED, FAILURE, NO_QUESTION, REFUSED, number_in, number_of_no_kind, reply_at,
 };
 
 // A run of psi: which question it waits for; what the last call that wrote has told, by its kind and a number beside it; n, n1 and n2; the penalty; the number
@@ -132,7 +132,7 @@ pub extern "C" fn pozkerrin_psi_answer(
     let s = small(run);
     let wanted = psi_waits(s);
     let Some(a) = reply_at(kind, x, code) else {
-        return strange_number(wanted);
+        return number_of_no_kind(wanted);
     };
     if let Some(refusal) = refusal(wanted, a, v.len(), true) {
         return refusal.number();

@@ -5,7 +5,7 @@ use Rattle.std.specs.Float.{binary64}
 use Rattle.model.specs.Process.{Kind}
 use Rattle.model.specs.Refusals.{Reply, answer_refusal}
 use Rattle.board.specs.Board.{vector, U, Y_PLUS}
-use Rattle.machine.specs.Waits.{strange, any_refusal}
+use Rattle.machine.specs.Waits.{of_no_kind, any_refusal}
 use Rattle.machine.specs.LoopCalls.{lent_right}
 use Rattle.machine.specs.LoopRun as L
 use Rattle.machine.specs.LoopAnswer.{wanted_by, refused_by, plan_after, xi_after, answered, answer_any}
@@ -28,11 +28,11 @@ module _ (was : AlmC) (v us xs : List Float) (w : Option Kind) (d : (l : List Fl
   e = d was.board
 
   -- a refused answer
-  pub leaves_strange : (o : Option Reply) (number : ℕ) → none ≡ o → number ≡ strange w → Leaves o v us us xs xs was was number
+  pub leaves_strange : (o : Option Reply) (number : ℕ) → none ≡ o → number ≡ of_no_kind w → Leaves o v us us xs xs was was number
   unfolding any_refusal
   leaves_strange o number q z =
       subst (λ (o : Option Reply). Leaves o v us us xs xs was was number) q
-      (record { refused = λ k t. (z ∙ ap strange e ∙ t, refl, refl, refl); accepted = λ t. absurd (strange_some _ t) })
+      (record { refused = λ k t. (z ∙ ap of_no_kind e ∙ t, refl, refl, refl); accepted = λ t. absurd (strange_some _ t) })
 
   module _ (a : C.Reply) (o : Option Reply) (q : some (reply_of a) ≡ o) where
     refusal_is : answer_refusal w (reply_of a) (length v) t ≡ refusal_at was (some (reply_of a)) (length v) (length us) (length xs)

@@ -10,13 +10,13 @@ use Rattle.model.specs.Bounds.{AtMost}
 use Rattle.model.specs.Paths.{Watch, Along}
 use Rattle.model.proofs.Carry.{at_most_ended}
 use Rattle.model.specs.Refusing.{Refuses}
-use Rattle.machine.specs.Waits.{strange, any_refusal}
+use Rattle.machine.specs.Waits.{of_no_kind, any_refusal}
 use Rattle.claim.specs.History.{Runs, Call, Meets, History, begun, more}
-use Rattle.claim.specs.Trace.{reply_of, refusal, leads_to, comes_to, left, trace, six_to_eight, turned_down, accepted, weighed}
+use Rattle.claim.specs.Trace.{reply_of, refusal, leads_to, comes_to, left, trace, six_to_eight, turned_down, accepted, total_weight}
 use Rattle.claim.specs.Claim.{Each, latest_run, Over, Follows}
-use Rattle.claim.specs.Lawful.{refused_by, Reaches, Gives, nothing, back, Lawful}
+use Rattle.claim.specs.Lawful.{refused_by, ComesTo, Gives, nothing, back, Lawful}
 use Rattle.claim.proofs.Lawful.{refuses, accepts, gives_kept, refused_hands}
-use Rattle.claim.proofs.Left.{named, left_accepted, left_refused, trace_accepted, trace_refused, weighed_passed, weighed_taken, asked_one, handed_left, within_left, awaits_accepted, awaits_left}
+use Rattle.claim.proofs.Left.{named, left_accepted, left_refused, trace_accepted, trace_refused, total_weight_passed, total_weight_taken, asked_one, handed_left, within_left, awaits_accepted, awaits_left}
 use Rattle.claim.specs.Follow.{After, Back, One}
 
 -- ---- the table's numbers
@@ -40,14 +40,14 @@ table_down (some k) r vs lent m e = by (fits_kind k r) (fits_length k r vs && le
     by false b w = down_by m 7 w refl
 
 any_down : (w : Option Kind) (a : Option Reply) (vs : ℕ) (lent : Bool) (m : ℕ) → any_refusal w a vs lent ≡ suc m → six_to_eight (suc m) ≡ true
-unfolding any_refusal strange six_to_eight
+unfolding any_refusal of_no_kind six_to_eight
 any_down none none vs lent m e = down_by m 6 e refl
 any_down (some k) none vs lent m e = down_by m 7 e refl
 any_down w (some a) vs lent m e = table_down w a vs lent m e
 
 -- where nothing is waited for, every answer gets 6
 any_over : (a : Option Reply) (vs : ℕ) (lent : Bool) → any_refusal none a vs lent ≡ 6
-unfolding any_refusal answer_refusal strange
+unfolding any_refusal answer_refusal of_no_kind
 any_over none vs lent = refl
 any_over (some a) vs lent = refl
 
@@ -114,7 +114,7 @@ module _ {Q H : Type 0} (k : Runs Q H) (law : Lawful k) (s : k.Settings) (p : Pr
       unfolding turned_down refusal refused_by
       down = rw (same.0, law.numbered (stop (refused (suc m)))) (any_down (wanted now) c.reply (length c.vector) (k.right s c.lent) m e)
 
-      count_same : accepted k cs ≡ weighed (λ q. 1) (trace k s p cs) → accepted k (c ∷ cs) ≡ weighed (λ q. 1) (trace k s p (c ∷ cs))
+      count_same : accepted k cs ≡ total_weight (λ q. 1) (trace k s p cs) → accepted k (c ∷ cs) ≡ total_weight (λ q. 1) (trace k s p (c ∷ cs))
       unfolding accepted
       count_same h = rw (down, trace_refused k s p c cs m e) h
 
@@ -137,8 +137,8 @@ module _ {Q H : Type 0} (k : Runs Q H) (law : Lawful k) (s : k.Settings) (p : Pr
       abbrev next : Process Q H
       next = leads_to k now c
 
-      to : Reaches k s (leads_to k now c) c.lent c.wrote c.outcome c.run
-      to = subst (λ (z : k.Settings). Reaches k z (leads_to k now c) c.lent c.wrote c.outcome c.run) a.settings (subst (λ (z : Process Q H). Reaches k (k.settings t) (leads_to k z c) c.lent c.wrote c.outcome c.run) a.rest (accepts k law t c meets (here ∙ e)))
+      to : ComesTo k s (leads_to k now c) c.lent c.wrote c.outcome c.run
+      to = subst (λ (z : k.Settings). ComesTo k z (leads_to k now c) c.lent c.wrote c.outcome c.run) a.settings (subst (λ (z : Process Q H). ComesTo k (k.settings t) (leads_to k z c) c.lent c.wrote c.outcome c.run) a.rest (accepts k law t c meets (here ∙ e)))
 
       comes_accepted : comes_to k s now c ≡ leads_to k now c
       unfolding comes_to or_refused
@@ -148,11 +148,11 @@ module _ {Q H : Type 0} (k : Runs Q H) (law : Lawful k) (s : k.Settings) (p : Pr
       unfolding turned_down
       up = rw (to.outcome, law.numbered next) (not_down P beyond next (awaits_accepted k s p P c now (awaits_left k s p P good cs) e))
 
-      count_more : accepted k cs ≡ weighed (λ q. 1) (trace k s p cs) → accepted k (c ∷ cs) ≡ weighed (λ q. 1) (trace k s p (c ∷ cs))
+      count_more : accepted k cs ≡ total_weight (λ q. 1) (trace k s p cs) → accepted k (c ∷ cs) ≡ total_weight (λ q. 1) (trace k s p (c ∷ cs))
       unfolding accepted refusal
       count_more h =
-          rw (up, trace_accepted k s p c cs e, weighed_passed (λ q. 1) next)
-          (omega (arith, h, weighed_taken (λ q. 1) now (reply_of c.reply) c.vector (trace k s p cs), asked_one now (reply_of c.reply) (length c.vector) (k.right s c.lent) (named _ _ _ _ e)))
+          rw (up, trace_accepted k s p c cs e, total_weight_passed (λ q. 1) next)
+          (omega (arith, h, total_weight_taken (λ q. 1) now (reply_of c.reply) c.vector (trace k s p cs), asked_one now (reply_of c.reply) (length c.vector) (k.right s c.lent) (named _ _ _ _ e)))
 
       one_accepted : One k s p cs t c
       one_accepted =
@@ -188,9 +188,9 @@ module _ {Q H : Type 0} (k : Runs Q H) (law : Lawful k) (s : k.Settings) (p : Pr
     each_one F go begun = tt
     each_one F go (more {t = t} {cs = cs} h c meets) = (go cs t c (latest_is h) (one cs t (follow h) c meets), each_one F go h)
 
-    counted : {cs : List (Call k)} {t : k.Run} → History k r cs t → accepted k cs ≡ weighed (λ q. 1) (trace k s p cs)
-    unfolding accepted trace weighed
-    counted begun = sym (weighed_passed (λ q. 1) p [])
+    counted : {cs : List (Call k)} {t : k.Run} → History k r cs t → accepted k cs ≡ total_weight (λ q. 1) (trace k s p cs)
+    unfolding accepted trace total_weight
+    counted begun = sym (total_weight_passed (λ q. 1) p [])
     counted (more {t = t} {cs = cs} h c meets) = (one cs t (follow h) c meets).count (counted h)
 
     -- where a call hands something back, P holds of it and of all that happened
@@ -219,5 +219,5 @@ module _ {Q H : Type 0} (k : Runs Q H) (law : Lawful k) (s : k.Settings) (p : Pr
             ended = λ e. over k law t (ap wanted (follow h).rest ∙ at_most_ended (left k s p cs) (subst (AtMost (λ q. 1) (left k s p cs)) (omega (arith, counted h, e)) held.1));
           }
         where
-          held : (weighed (λ q. 1) (trace k s p cs) ≤ b) × AtMost (λ q. 1) (left k s p cs) (b - weighed (λ q. 1) (trace k s p cs))
+          held : (total_weight (λ q. 1) (trace k s p cs) ≤ b) × AtMost (λ q. 1) (left k s p cs) (b - total_weight (λ q. 1) (trace k s p cs))
           held = within_left k s p (λ q. 1) b most cs

@@ -24,7 +24,7 @@ use Rattle.machine.specs.InnerRun.{Numbers, Run, Left}
 use Rattle.machine.specs.InnerRest.{said, asked_of, end_said}
 use Rattle.machine.specs.InnerCalls.{Starts, asking}
 use Rattle.claim.specs.History.{Call, History}
-use Rattle.claim.specs.Trace.{weighed, left}
+use Rattle.claim.specs.Trace.{total_weight, left}
 use Rattle.claim.specs.Claim.{Over, scores}
 use Rattle.claim.specs.Lawful.{Gives, nothing, back, Lawful}
 use Rattle.claim.proofs.Lawful.{gives_as, begins, numbered}
@@ -75,7 +75,7 @@ beyond m z = omega (arith, z.0)
 
 module _ (f : Format) (s : Settings) (u : List Float) where
   -- the questions of a kind that were accepted
-  spent : (w : Weights) (b c : ℕ) → AtMost (weigh w) (solve f s u) b → b ≤ c → (cs : List (Call (inner_runs f))) → weighed (weigh w) (trace_of f s u cs) ≤ c
+  spent : (w : Weights) (b c : ℕ) → AtMost (weigh w) (solve f s u) b → b ≤ c → (cs : List (Call (inner_runs f))) → total_weight (weigh w) (trace_of f s u cs) ≤ c
   spent w b c most l cs = omega (arith, (within_left (inner_runs f) s (solve f s u) (weigh w) b most cs).0)
 
   hands_one : (c : Call (inner_runs f)) (before : List (Call (inner_runs f)))

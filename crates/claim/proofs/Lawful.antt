@@ -9,11 +9,11 @@ use Rattle.machine.specs.Numbers.{table_number}
 use Rattle.std.proofs.Math.Option.{Option, none, some}
 use Rattle.std.specs.Prelude.{length}
 use Rattle.model.specs.Refusals.{Reply, wanted, accept, or_refused}
-use Rattle.machine.specs.Waits.{strange, any_refusal}
+use Rattle.machine.specs.Waits.{of_no_kind, any_refusal}
 use Rattle.model.specs.Carry.{end_of}
 use Rattle.claim.specs.History.{Runs, Call, AnswersAny, Meets}
 use Rattle.claim.specs.Trace.{reply_of, refusal, leads_to}
-use Rattle.claim.specs.Lawful.{Gives, Lawful, Reaches, back, nothing, refused_by}
+use Rattle.claim.specs.Lawful.{Gives, Lawful, ComesTo, back, nothing, refused_by}
 
 -- the table's number is told as it is
 pub numbered : {Q A H E : Type 0} (asks : Q → A) (tells : H → E) (q : Process Q H) → table_number (saying asks tells q) ≡ refused_by q
@@ -31,8 +31,8 @@ gives_as k s e f w (nothing a b) = nothing (ap k.hands f ∙ a) (λ was. w was �
 gives_as k s e f w (back h a b c) = back h (e ∙ a) (f ∙ b) (λ was. w was ∙ c was)
 
 -- an answer of no kind is refused
-named_only : {X : Type 0} (w : Option Kind) → strange w ≡ 0 → X
-unfolding strange
+named_only : {X : Type 0} (w : Option Kind) → of_no_kind w ≡ 0 → X
+unfolding of_no_kind
 named_only none e = absurd (omega arith)
 named_only (some k) e = absurd (omega arith)
 
@@ -49,12 +49,12 @@ module _ {Q H : Type 0} (k : Runs Q H) (law : Lawful k) where
       by (some a) meets e = law.refuses r a c.vector c.lent c.wrote c.outcome c.run meets m e
 
   pub accepts : (r : k.Run) (c : Call k) → Meets k r c → refusal k (k.settings r) (k.rest r) c ≡ 0
-      → Reaches k (k.settings r) (leads_to k (k.rest r) c) c.lent c.wrote c.outcome c.run
+      → ComesTo k (k.settings r) (leads_to k (k.rest r) c) c.lent c.wrote c.outcome c.run
   unfolding refusal any_refusal leads_to
   accepts r c meets e = by c.reply meets e
     where
       by : (a : Option Reply) → AnswersAny k r a c.vector c.lent c.wrote c.outcome c.run → any_refusal (wanted (k.rest r)) a (length c.vector) (k.right (k.settings r) c.lent) ≡ 0
-          → Reaches k (k.settings r) (accept (k.rest r) (reply_of a) c.vector) c.lent c.wrote c.outcome c.run
+          → ComesTo k (k.settings r) (accept (k.rest r) (reply_of a) c.vector) c.lent c.wrote c.outcome c.run
       by none meets e = named_only (wanted (k.rest r)) e
       by (some a) meets e = law.accepts r a c.vector c.lent c.wrote c.outcome c.run meets e
 

@@ -17,15 +17,15 @@ use Rattle.model.specs.Carry.{weight_asked, state_after, state_past, MarksRight,
 use Rattle.model.proofs.Carry.{at_most_asked, at_most_accept, at_most_remains, along_accept, along_remains, along_marks, along_handed}
 use Rattle.model.specs.Refusing.{Refuses, Awaits}
 use Rattle.model.proofs.Refusing.{refuses_remains, awaits_accept}
-use Rattle.machine.specs.Waits.{strange, any_refusal}
+use Rattle.machine.specs.Waits.{of_no_kind, any_refusal}
 use Rattle.claim.specs.History.{Runs, Call}
-use Rattle.claim.specs.Trace.{reply_of, refusal, leads_to, comes_to, renewed, left, Event, answered, scored, began, passed, taken, trace, watched, weighed}
+use Rattle.claim.specs.Trace.{reply_of, refusal, leads_to, comes_to, where_accepted, left, Event, answered, scored, began, passed, taken, trace, watched, total_weight}
 use Rattle.claim.specs.Claim.{latest, ScoresRight}
 use Rattle.claim.specs.Left.{AllRight}
 
 -- an answer that nothing refuses has a name
 pub named : (w : Option Kind) (a : Option Reply) (vs : ℕ) (lent : Bool) → any_refusal w a vs lent ≡ 0 → answer_refusal w (reply_of a) vs lent ≡ 0
-unfolding any_refusal strange
+unfolding any_refusal of_no_kind
 named none none vs lent e = absurd (omega arith)
 named (some k) none vs lent e = absurd (omega arith)
 named w (some a) vs lent e = e
@@ -42,19 +42,19 @@ module _ {Q H : Type 0} (k : Runs Q H) (s : k.Settings) (p : Process Q H) where
     events = taken q (reply_of c.reply) c.vector (trace k s p cs)
 
     pub left_accepted : refusal k s q c ≡ 0 → left k s p (c ∷ cs) ≡ remains (leads_to k q c)
-    unfolding left renewed
+    unfolding left where_accepted
     left_accepted e = rw e
 
     pub left_refused : (m : ℕ) → refusal k s q c ≡ suc m → left k s p (c ∷ cs) ≡ q
-    unfolding left renewed
+    unfolding left where_accepted
     left_refused m e = rw e
 
     pub trace_accepted : refusal k s q c ≡ 0 → trace k s p (c ∷ cs) ≡ passed (leads_to k q c) events
-    unfolding trace renewed
+    unfolding trace where_accepted
     trace_accepted e = rw e
 
     pub trace_refused : (m : ℕ) → refusal k s q c ≡ suc m → trace k s p (c ∷ cs) ≡ trace k s p cs
-    unfolding trace renewed
+    unfolding trace where_accepted
     trace_refused m e = rw e
 
 -- ---- what holds of the process holds of what is left
@@ -74,19 +74,19 @@ after_watched w x (score half norm p) r v es = refl
 after_watched w x (begin p) r v es = refl
 after_watched w x (stop e) r v es = refl
 
-pub weighed_passed : {Q H : Type 0} (w : Q → ℕ) (q : Process Q H) (es : List (Event Q)) → weighed w (passed q es) ≡ weighed w es
-unfolding weighed passed
-weighed_passed w (ask q k continue) es = refl
-weighed_passed w (score half norm p) es = weighed_passed w p (scored half norm ∷ es)
-weighed_passed w (begin p) es = weighed_passed w p (began ∷ es)
-weighed_passed w (stop e) es = refl
+pub total_weight_passed : {Q H : Type 0} (w : Q → ℕ) (q : Process Q H) (es : List (Event Q)) → total_weight w (passed q es) ≡ total_weight w es
+unfolding total_weight passed
+total_weight_passed w (ask q k continue) es = refl
+total_weight_passed w (score half norm p) es = total_weight_passed w p (scored half norm ∷ es)
+total_weight_passed w (begin p) es = total_weight_passed w p (began ∷ es)
+total_weight_passed w (stop e) es = refl
 
-pub weighed_taken : {Q H : Type 0} (w : Q → ℕ) (q : Process Q H) (r : Reply) (v : List Float) (es : List (Event Q)) → weighed w (taken q r v es) ≡ weight_asked w q + weighed w es
-unfolding weighed taken weight_asked
-weighed_taken w (ask q k continue) r v es = refl
-weighed_taken w (score half norm p) r v es = omega arith
-weighed_taken w (begin p) r v es = omega arith
-weighed_taken w (stop e) r v es = omega arith
+pub total_weight_taken : {Q H : Type 0} (w : Q → ℕ) (q : Process Q H) (r : Reply) (v : List Float) (es : List (Event Q)) → total_weight w (taken q r v es) ≡ weight_asked w q + total_weight w es
+unfolding total_weight taken weight_asked
+total_weight_taken w (ask q k continue) r v es = refl
+total_weight_taken w (score half norm p) r v es = omega arith
+total_weight_taken w (begin p) r v es = omega arith
+total_weight_taken w (stop e) r v es = omega arith
 
 pub scores_right : {Q : Type 0} (f : Format) (view : Q → Looks) (es : List (Event Q)) → AllRight (tracing f view) nothing_yet es → ScoresRight f view es
 unfolding latest
@@ -178,23 +178,23 @@ module _ {Q H : Type 0} (k : Runs Q H) (s : k.Settings) (p : Process Q H) where
   module _ (w : Q → ℕ) (b : ℕ) where
     -- what was accepted weighs at most b, and what q may still ask weighs no more than what is left of b
     abbrev Within : List (Event Q) → Process Q H → Type 0
-    Within es q = (weighed w es ≤ b) × AtMost w q (b - weighed w es)
+    Within es q = (total_weight w es ≤ b) × AtMost w q (b - total_weight w es)
 
     within_accepted : (c : Call k) (es : List (Event Q)) (q : Process Q H) → Within es q → refusal k s q c ≡ 0 → Within (taken q (reply_of c.reply) c.vector es) (leads_to k q c)
     unfolding refusal leads_to
     within_accepted c es q t e =
-        let more = weighed_taken w q (reply_of c.reply) c.vector es in
-        let less = at_most_asked w q (b - weighed w es) t.1 in (
+        let more = total_weight_taken w q (reply_of c.reply) c.vector es in
+        let less = at_most_asked w q (b - total_weight w es) t.1 in (
           omega (arith, more, less, t.0),
           subst (λ (m : ℕ). AtMost w (accept q (reply_of c.reply) c.vector) m) (omega (arith, more))
-              (at_most_accept w q (b - weighed w es) (reply_of c.reply) c.vector (k.right s c.lent) t.1 (named _ _ _ _ e)),
+              (at_most_accept w q (b - total_weight w es) (reply_of c.reply) c.vector (k.right s c.lent) t.1 (named _ _ _ _ e)),
         )
 
     within_remains : (es : List (Event Q)) (q : Process Q H) → Within es q → Within (passed q es) (remains q)
-    within_remains es q t = rw (weighed_passed w q es) (t.0, at_most_remains w q _ t.1)
+    within_remains es q t = rw (total_weight_passed w q es) (t.0, at_most_remains w q _ t.1)
 
     pub within_left : AtMost w p b → (cs : List (Call k)) → Within (trace k s p cs) (left k s p cs)
-    unfolding left trace weighed
+    unfolding left trace total_weight
     within_left t [] = within_remains [] p (omega arith, at_most_more w p b _ (omega arith) t)
     within_left t (c ∷ cs) = by (within_left t cs) (refusal k s (left k s p cs) c) refl
       where

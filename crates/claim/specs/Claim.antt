@@ -11,7 +11,7 @@ use Rattle.model.specs.Counts.{Tally, counting}
 use Rattle.model.specs.Least.{Scored, All}
 use Rattle.model.specs.Plans.{scoring}
 use Rattle.claim.specs.History.{Runs, Call, Meets}
-use Rattle.claim.specs.Trace.{comes_to, left, Event, answered, scored, began, trace, watched, turned_down, accepted, weighed}
+use Rattle.claim.specs.Trace.{comes_to, left, Event, answered, scored, began, trace, watched, turned_down, accepted, total_weight}
 
 -- P holds of each call, with the calls before it
 abbrev pub Each : {A : Type 0} → (A → List A → Type 0) → List A → Type 0
@@ -42,7 +42,7 @@ pub record Follows {Q H : Type 0} (k : Runs Q H) (s : k.Settings) (p : Process Q
   -- "every refusal leaves the lent plan and multipliers as the run found them"
   pub kept : Each (λ c before. k.hands c.outcome ≡ false → c.wrote ≡ c.lent) cs
   -- what gets none of 6 to 8 is what the table accepts
-  pub counted : accepted k cs ≡ weighed (λ q. 1) (trace k s p cs)
+  pub counted : accepted k cs ≡ total_weight (λ q. 1) (trace k s p cs)
   -- "no more than .. answers are accepted"
   pub bound : accepted k cs ≤ b
   -- "and after that many the run has ended"

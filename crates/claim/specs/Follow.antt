@@ -3,7 +3,7 @@ use Rattle.std.specs.Prelude.{◌≡◌, true, false, List, ◌∷◌}
 use Rattle.model.specs.Process.{Process, handed, stop}
 use Rattle.model.specs.Paths.{Watch}
 use Rattle.claim.specs.History.{Runs, Call}
-use Rattle.claim.specs.Trace.{comes_to, left, trace, watched, turned_down, accepted, weighed}
+use Rattle.claim.specs.Trace.{comes_to, left, trace, watched, turned_down, accepted, total_weight}
 use Rattle.claim.specs.Claim.{Unchanged}
 
 -- what a call has handed back
@@ -26,4 +26,4 @@ module _ {Q H : Type 0} (k : Runs Q H) (s : k.Settings) (p : Process Q H) where
     pub writes : c.wrote ≡ k.written s (comes_to k s (left k s p cs) c) c.lent
     pub unchanged : turned_down k c ≡ true → Unchanged k t c
     pub kept : k.hands c.outcome ≡ false → c.wrote ≡ c.lent
-    pub count : accepted k cs ≡ weighed (λ q. 1) (trace k s p cs) → accepted k (c ∷ cs) ≡ weighed (λ q. 1) (trace k s p (c ∷ cs))
+    pub count : accepted k cs ≡ total_weight (λ q. 1) (trace k s p cs) → accepted k (c ∷ cs) ≡ total_weight (λ q. 1) (trace k s p (c ∷ cs))

@@ -4,7 +4,7 @@ use Rattle.std.proofs.Math.Option.{Option, none, some}
 use Rattle.model.specs.Process.{Process, stop}
 use Rattle.model.specs.Process.{refused as refused_end}
 use Rattle.model.specs.Refusals.{Reply, wanted}
-use Rattle.machine.specs.Waits.{strange}
+use Rattle.machine.specs.Waits.{of_no_kind}
 use Rattle.machine.specs.Told.{Told, asked, ended, refused, failed}
 
 -- whether an outcome hands something back
@@ -46,7 +46,7 @@ pub record Call {Q H : Type 0} (k : Runs Q H) : Type 0 where
 
 -- an answer meets the contract, on the run r: one of no kind gets 6 or 7, and changes nothing
 abbrev pub AnswersAny : {Q H : Type 0} → (k : Runs Q H) → k.Run → Option Reply → List Float → k.Lent → k.Lent → k.Outcome → k.Run → Type 0
-AnswersAny k r none v lent wrote o run = (o ≡ k.said (stop (refused_end (strange (wanted (k.rest r)))))) × (run ≡ r) × (wrote ≡ lent)
+AnswersAny k r none v lent wrote o run = (o ≡ k.said (stop (refused_end (of_no_kind (wanted (k.rest r)))))) × (run ≡ r) × (wrote ≡ lent)
 AnswersAny k r (some a) v lent wrote o run = k.Answers r a v lent wrote o run
 
 -- the call does

@@ -16,7 +16,7 @@ use Rattle.machine.specs.InnerRun.{Numbers, Told, Run}
 use Rattle.machine.specs.InnerRest.{rest, said}
 use Rattle.machine.specs.InnerCalls.{Answers, asking, first_point, second_point, Points}
 use Rattle.claim.specs.History.{hands_back, Runs, Call}
-use Rattle.claim.specs.Trace.{left, Event, trace, weighed}
+use Rattle.claim.specs.Trace.{left, Event, trace, total_weight}
 use Rattle.claim.specs.Claim.{Each, Follows, ScoresRight, scores, Plan}
 
 -- the calls of an inner solve, each of which lends u
@@ -58,11 +58,11 @@ pub record InnerClaim (f : Format) (s : Settings) (u : List Float) (r : Run) (cs
   -- its questions have document 01's points: those that the call `points` copies out of the run
   pub points : (xs xs' ys ys' : List Float) → Points f t xs xs' ys ys' 0 → (q : Question) → asking (left (inner_runs f) s (solve f s u) cs) ≡ some q → (xs' ≡ first_point q) × (ys' ≡ second_point q)
   -- "At most 14 + 22M COST, 3 + 11M GRADIENT, 12 + 21M PROJECT, 1 + M DIRECTION and M TIME"
-  pub costs : weighed (weigh only_cost) (trace_of f s u cs) ≤ 14 + 22 * s.limit
-  pub gradients : weighed (weigh only_gradient) (trace_of f s u cs) ≤ 3 + 11 * s.limit
-  pub projections : weighed (weigh only_project) (trace_of f s u cs) ≤ 12 + 21 * s.limit
-  pub directions : weighed (weigh only_direction) (trace_of f s u cs) ≤ 1 + s.limit
-  pub times : weighed (weigh only_time) (trace_of f s u cs) ≤ s.limit
+  pub costs : total_weight (weigh only_cost) (trace_of f s u cs) ≤ 14 + 22 * s.limit
+  pub gradients : total_weight (weigh only_gradient) (trace_of f s u cs) ≤ 3 + 11 * s.limit
+  pub projections : total_weight (weigh only_project) (trace_of f s u cs) ≤ 12 + 21 * s.limit
+  pub directions : total_weight (weigh only_direction) (trace_of f s u cs) ≤ 1 + s.limit
+  pub times : total_weight (weigh only_time) (trace_of f s u cs) ≤ s.limit
   -- "what is scored there is the solve's latest accepted PROJECT answer, and its norm is that of the residual, the latest GRADIENT's point minus this answer"
   pub scored : ScoresRight f seen (trace_of f s u cs)
   -- "Where it hands back a plan, that plan is .." what the lent u holds then

@@ -19,7 +19,7 @@ refused_by (stop (refused m)) = m
 refused_by (stop (failed c)) = 9
 
 -- an accepted answer has come to the process q: the lent places held `was` and now `is`, o is the outcome and r the run returned
-pub record Reaches {Q H : Type 0} (k : Runs Q H) (s : k.Settings) (q : Process Q H) (was is : k.Lent) (o : k.Outcome) (r : k.Run) : Type 0 where
+pub record ComesTo {Q H : Type 0} (k : Runs Q H) (s : k.Settings) (q : Process Q H) (was is : k.Lent) (o : k.Outcome) (r : k.Run) : Type 0 where
   pub settings : k.settings r ≡ s
   pub outcome : o ≡ k.said q
   pub process : k.rest r ≡ remains q
@@ -35,7 +35,7 @@ pub record Lawful {Q H : Type 0} (k : Runs Q H) : Type 0 where
   pub refuses : (r : k.Run) (a : Reply) (v : List Float) (lent wrote : k.Lent) (o : k.Outcome) (t : k.Run) → k.Answers r a v lent wrote o t
       → (m : ℕ) → answer_refusal (wanted (k.rest r)) a (length v) (k.right (k.settings r) lent) ≡ suc m → (o ≡ k.said (stop (refused (suc m)))) × (t ≡ r) × (wrote ≡ lent)
   pub accepts : (r : k.Run) (a : Reply) (v : List Float) (lent wrote : k.Lent) (o : k.Outcome) (t : k.Run) → k.Answers r a v lent wrote o t
-      → answer_refusal (wanted (k.rest r)) a (length v) (k.right (k.settings r) lent) ≡ 0 → Reaches k (k.settings r) (accept (k.rest r) a v) lent wrote o t
+      → answer_refusal (wanted (k.rest r)) a (length v) (k.right (k.settings r) lent) ≡ 0 → ComesTo k (k.settings r) (accept (k.rest r) a v) lent wrote o t
   pub numbered : (q : Process Q H) → k.number (k.said q) ≡ refused_by q
   pub gives : (s : k.Settings) (q : Process Q H) → Gives k s q
   pub hands : (h : H) → k.hands (k.said (stop (handed h))) ≡ true

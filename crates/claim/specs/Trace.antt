@@ -28,14 +28,14 @@ unfoldable pub comes_to : {Q H : Type 0} → (k : Runs Q H) → k.Settings → P
 comes_to k s q c = or_refused (refusal k s q c) (leads_to k q c)
 
 -- what is new where the table does not refuse, else what was
-unfoldable pub renewed : {A : Type 0} → ℕ → A → A → A
-renewed zero new was = new
-renewed (suc m) new was = was
+unfoldable pub where_accepted : {A : Type 0} → ℕ → A → A → A
+where_accepted zero new was = new
+where_accepted (suc m) new was = was
 
 -- what is left of the process p after a list of calls, the latest first
 unfoldable pub left : {Q H : Type 0} → (k : Runs Q H) → k.Settings → Process Q H → List (Call k) → Process Q H
 left k s p [] = remains p
-left k s p (c ∷ cs) = let q = left k s p cs in renewed (refusal k s q c) (remains (leads_to k q c)) q
+left k s p (c ∷ cs) = let q = left k s p cs in where_accepted (refusal k s q c) (remains (leads_to k q c)) q
 
 -- ---- what happened
 
@@ -63,7 +63,7 @@ unfoldable pub trace : {Q H : Type 0} → (k : Runs Q H) → k.Settings → Proc
 trace k s p [] = passed p []
 trace k s p (c ∷ cs) =
     let q = left k s p cs in
-    renewed (refusal k s q c) (passed (leads_to k q c) (taken q (reply_of c.reply) c.vector (trace k s p cs))) (trace k s p cs)
+    where_accepted (refusal k s q c) (passed (leads_to k q c) (taken q (reply_of c.reply) c.vector (trace k s p cs))) (trace k s p cs)
 
 -- what a watch has come to, from x, after these events
 unfoldable pub watched : {Q S : Type 0} → Watch Q S → S → List (Event Q) → S
@@ -87,8 +87,8 @@ accepted k [] = 0
 accepted k (c ∷ cs) = cond (turned_down k c) (accepted k cs) (suc (accepted k cs))
 
 -- what the questions of the accepted ones weigh
-unfoldable pub weighed : {Q : Type 0} → (Q → ℕ) → List (Event Q) → ℕ
-weighed w [] = 0
-weighed w (answered q k a ∷ es) = w q + weighed w es
-weighed w (scored half norm ∷ es) = weighed w es
-weighed w (began ∷ es) = weighed w es
+unfoldable pub total_weight : {Q : Type 0} → (Q → ℕ) → List (Event Q) → ℕ
+total_weight w [] = 0
+total_weight w (answered q k a ∷ es) = w q + total_weight w es
+total_weight w (scored half norm ∷ es) = total_weight w es
+total_weight w (began ∷ es) = total_weight w es

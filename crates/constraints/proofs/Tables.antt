@@ -9,7 +9,7 @@ use Rattle.std.specs.Float.{nan, Format}
 use Rattle.constraints.specs.declared.cartesian_product.Set.{Set}
 use Rattle.constraints.specs.Table.{Constraint, rectangle_of, ball_of, Row, alone, as_long, numbers_right, cartesian_product, all_as_long, filled, sets_right, all_numbers_right, refusal}
 use Rattle.constraints.proofs.Turns.{overwritten, length_rectangle, length_ball}
-use Rattle.constraints.specs.Lent.{is_rectangle, count, lengths_right, fits, constraint_of, table_of, counted, lent_refusal, Projects}
+use Rattle.constraints.specs.Lent.{is_rectangle, count, lengths_right, fits, constraint_of, table_of, numbers_of_all, lent_refusal, Projects}
 
 and_false : (b : Bool) → (b && false) ≡ false
 and_false true = refl
@@ -257,8 +257,8 @@ long_lent s l c e = by (is_rectangle s) c e
     by false c e = and_from _ _ (eq-eqb _ _ (sym (length-take-le s.first (drop 1 l) (omega (arith, length-drop 1 l))) ∙ eqb-true _ _ e)) refl
 
 -- the parts of the test, and the test from its parts
-fits_parts : (t : List Set) (l : List Float) (n : ℕ) → fits t (length l) n ≡ true → (counted t ≤ length l) × (filled (table_of t l) ≡ n) × (all_as_long (table_of t l) ≡ true)
-unfolding fits counted filled all_as_long table_of
+fits_parts : (t : List Set) (l : List Float) (n : ℕ) → fits t (length l) n ≡ true → (numbers_of_all t ≤ length l) × (filled (table_of t l) ≡ n) × (all_as_long (table_of t l) ≡ true)
+unfolding fits numbers_of_all filled all_as_long table_of
 fits_parts [] l n e = (omega arith, sym (eqb-true _ _ e), refl)
 fits_parts (s ∷ t) l n e =
     let p = and_parts _ _ e in
@@ -269,8 +269,8 @@ fits_parts (s ∷ t) l n e =
     let w = fits_parts t (drop (count s) l) (n - s.stretch) (ap (λ (k : ℕ). fits t k (n - s.stretch)) (length-drop (count s) l) ∙ p.1) in
     (omega (arith, a, b, w.0, length-drop (count s) l), omega (arith, a, w.1), and_from _ _ (as_long_lent s l r.1 b) w.2)
 
-fits_from : (t : List Set) (l : List Float) (n : ℕ) → counted t ≤ length l → filled (table_of t l) ≡ n → all_as_long (table_of t l) ≡ true → fits t (length l) n ≡ true
-unfolding fits counted filled all_as_long table_of
+fits_from : (t : List Set) (l : List Float) (n : ℕ) → numbers_of_all t ≤ length l → filled (table_of t l) ≡ n → all_as_long (table_of t l) ≡ true → fits t (length l) n ≡ true
+unfolding fits numbers_of_all filled all_as_long table_of
 fits_from [] l n c e a = eq-eqb _ _ (sym e)
 fits_from (s ∷ t) l n c e a =
     let b : count s ≤ length l = omega arith in
@@ -285,7 +285,7 @@ table_length [] l = refl
 table_length (s ∷ t) l = ap suc (table_length t (drop (count s) l))
 
 -- the test of the code, on a table as it is lent
-fits_right : (t : List Set) (l : List Float) (n : ℕ) → (leb (length t) 8 && fits t (length l) n) ≡ (leb (counted t) (length l) && sets_right (table_of t l) n)
+fits_right : (t : List Set) (l : List Float) (n : ℕ) → (leb (length t) 8 && fits t (length l) n) ≡ (leb (numbers_of_all t) (length l) && sets_right (table_of t l) n)
 unfolding sets_right
 fits_right t l n =
     same _ _
@@ -315,11 +315,11 @@ module _ (f : Format) (t : List Set) (l v : List Float) (w r : Bool) (e : w ≡ 
   -- the sets do not fit
   pub refused_20 : w ≡ false → Projects f t l v v 20
   unfolding lent_refusal refusal
-  refused_20 h = record { number = sym (one_fails (leb (counted t) (length l)) (sets_right (table_of t l) (length v)) _ _ (sym (fits_right t l (length v)) ∙ sym e ∙ h)); vector = refl }
+  refused_20 h = record { number = sym (one_fails (leb (numbers_of_all t) (length l)) (sets_right (table_of t l) (length v)) _ _ (sym (fits_right t l (length v)) ∙ sym e ∙ h)); vector = refl }
 
   taken : w ≡ true → lent_refusal t l (length v) ≡ cond (all_numbers_right (table_of t l)) 0 21
   unfolding lent_refusal refusal
-  taken h = both_pass (leb (counted t) (length l)) (sets_right (table_of t l) (length v)) _ _ (sym (fits_right t l (length v)) ∙ sym e ∙ h)
+  taken h = both_pass (leb (numbers_of_all t) (length l)) (sets_right (table_of t l) (length v)) _ _ (sym (fits_right t l (length v)) ∙ sym e ∙ h)
 
   -- a number is not right
   pub refused_21 : w ≡ true → r ≡ all_numbers_right (table_of t l) → r ≡ false → Projects f t l v v 21

@@ -31,13 +31,13 @@ fits [] room left = eqb left 0
 fits (s ∷ t) room left = leb s.stretch left && lengths_right s && leb (count s) room && fits t (room - count s) (left - s.stretch)
 
 -- the numbers of all sets; more may be lent, which no set has
-unfoldable pub counted : List Set → ℕ
-counted [] = 0
-counted (s ∷ t) = count s + counted t
+unfoldable pub numbers_of_all : List Set → ℕ
+numbers_of_all [] = 0
+numbers_of_all (s ∷ t) = count s + numbers_of_all t
 
 -- where fewer numbers are lent than the sets have, some bounds or a centre are shorter than their stretch
 unfoldable pub lent_refusal : List Set → List Float → ℕ → ℕ
-lent_refusal t l n = cond (leb (counted t) (length l)) (refusal (table_of t l) n) 20
+lent_refusal t l n = cond (leb (numbers_of_all t) (length l)) (refusal (table_of t l) n) 20
 
 abbrev pub number_of : Std.Option Refusal → ℕ
 number_of Std.None = 0

@@ -8,7 +8,7 @@ use Rattle.model.specs.Process as Asks
 use Rattle.model.specs.Process.{handed, refused, failed, converged, not_converged_iterations, not_converged_out_of_time}
 use Rattle.model.specs.Refusals.{start_inner}
 use Rattle.model.specs.Play.{asked, ended, turned}
-use Rattle.model.specs.Script.{int, ◌·2^◌, ◌/2^◌, only, number, vector, yea, nay, failure, says, ◌▷◌, all_inner}
+use Rattle.model.specs.Script.{int, ◌·2^◌, ◌/2^◌, only, number, vector, answer_yes, answer_no, failure, says, ◌▷◌, all_inner}
 use Rattle.corners.specs.Shown.{Shows, spoken}
 
 -- ---- starts: the sizes, and the lower number first
@@ -656,7 +656,7 @@ pub time_a_no_1 :
     ∷ asked (Asks.Question.cost (only (1 ·2^ 1))) ▷ number null
     ∷ asked (Asks.Question.gradient (only (1 ·2^ 1))) ▷ vector (only null)
     ∷ asked (Asks.Question.project (only (1 ·2^ 1))) ▷ vector (only (5 /2^ 1))
-    ∷ asked Asks.Question.time ▷ nay
+    ∷ asked Asks.Question.time ▷ answer_no
     ∷ asked (Asks.Question.cost (only (5 /2^ 1))) ▷ number (int 1)
     ∷ says (ended (handed (record { plan = (only (5 /2^ 1)); status = not_converged_out_of_time; iterations = 1; norm = 1 /2^ 1; cost = int 1 })))
     ∷ [])
@@ -674,7 +674,7 @@ pub time_a_no_2 :
     ∷ asked (Asks.Question.cost (only (1 ·2^ 1))) ▷ number null
     ∷ asked (Asks.Question.gradient (only (1 ·2^ 1))) ▷ vector (only null)
     ∷ asked (Asks.Question.project (only (1 ·2^ 1))) ▷ vector (only (1 ·2^ 2))
-    ∷ asked Asks.Question.time ▷ nay
+    ∷ asked Asks.Question.time ▷ answer_no
     ∷ asked (Asks.Question.cost (only (1 ·2^ 2))) ▷ number null
     ∷ asked (Asks.Question.direction false (only (neg (1 ·2^ 1))) (only (1 ·2^ 1))) ▷ vector (only null)
     ∷ asked (Asks.Question.cost (only (1 ·2^ 1))) ▷ number (neg (int 1))
@@ -697,7 +697,7 @@ pub time_a_no_3 :
     ∷ asked (Asks.Question.cost (only (1 ·2^ 1))) ▷ number null
     ∷ asked (Asks.Question.gradient (only (1 ·2^ 1))) ▷ vector (only null)
     ∷ asked (Asks.Question.project (only (1 ·2^ 1))) ▷ vector (only (1 ·2^ 2))
-    ∷ asked Asks.Question.time ▷ nay
+    ∷ asked Asks.Question.time ▷ answer_no
     ∷ asked (Asks.Question.cost (only (1 ·2^ 2))) ▷ number null
     ∷ asked (Asks.Question.direction false (only (neg (1 ·2^ 1))) (only (1 ·2^ 1))) ▷ vector (only null)
     ∷ asked (Asks.Question.cost (only (1 ·2^ 1))) ▷ number (neg (int 1))
@@ -720,13 +720,13 @@ pub time_a_no_4 :
     ∷ asked (Asks.Question.cost (only (1 ·2^ 1))) ▷ number null
     ∷ asked (Asks.Question.gradient (only (1 ·2^ 1))) ▷ vector (only null)
     ∷ asked (Asks.Question.project (only (1 ·2^ 1))) ▷ vector (only (1 ·2^ 2))
-    ∷ asked Asks.Question.time ▷ yea
+    ∷ asked Asks.Question.time ▷ answer_yes
     ∷ asked (Asks.Question.cost (only (1 ·2^ 2))) ▷ number null
     ∷ asked (Asks.Question.direction false (only (neg (1 ·2^ 1))) (only (1 ·2^ 1))) ▷ vector (only null)
     ∷ asked (Asks.Question.cost (only (1 ·2^ 1))) ▷ number null
     ∷ asked (Asks.Question.gradient (only (1 ·2^ 1))) ▷ vector (only null)
     ∷ asked (Asks.Question.project (only (1 ·2^ 1))) ▷ vector (only (5 /2^ 1))
-    ∷ asked Asks.Question.time ▷ yea
+    ∷ asked Asks.Question.time ▷ answer_yes
     ∷ asked (Asks.Question.cost (only (5 /2^ 1))) ▷ number (int 1)
     ∷ says (ended (handed (record { plan = (only (5 /2^ 1)); status = converged; iterations = 2; norm = 1 /2^ 1; cost = int 1 })))
     ∷ [])
@@ -1224,7 +1224,7 @@ pub at_9_at_every_question_that_can_fail_11 :
     ∷ asked Asks.Question.time ▷ failure 10
     ∷ turned 7 ▷ number null
     ∷ turned 7 ▷ vector (only null)
-    ∷ turned 7 ▷ yea
+    ∷ turned 7 ▷ answer_yes
     ∷ asked (Asks.Question.cost (only (1 ·2^ 2))) ▷ number null
     ∷ asked (Asks.Question.direction false (only (neg (1 ·2^ 1))) (only (1 ·2^ 1))) ▷ vector (only null)
     ∷ asked (Asks.Question.cost (only (1 ·2^ 1))) ▷ failure 11
@@ -1244,7 +1244,7 @@ pub at_9_at_every_question_that_can_fail_12 :
     ∷ asked (Asks.Question.cost (only (1 ·2^ 1))) ▷ number null
     ∷ asked (Asks.Question.gradient (only (1 ·2^ 1))) ▷ vector (only null)
     ∷ asked (Asks.Question.project (only (1 ·2^ 1))) ▷ vector (only (1 ·2^ 2))
-    ∷ asked Asks.Question.time ▷ yea
+    ∷ asked Asks.Question.time ▷ answer_yes
     ∷ asked (Asks.Question.cost (only (1 ·2^ 2))) ▷ number null
     ∷ asked (Asks.Question.direction false (only (neg (1 ·2^ 1))) (only (1 ·2^ 1))) ▷ vector (only null)
     ∷ asked (Asks.Question.cost (only (1 ·2^ 1))) ▷ number null
@@ -1265,7 +1265,7 @@ pub at_9_at_every_question_that_can_fail_13 :
     ∷ asked (Asks.Question.cost (only (1 ·2^ 1))) ▷ number null
     ∷ asked (Asks.Question.gradient (only (1 ·2^ 1))) ▷ vector (only null)
     ∷ asked (Asks.Question.project (only (1 ·2^ 1))) ▷ vector (only (1 ·2^ 2))
-    ∷ asked Asks.Question.time ▷ yea
+    ∷ asked Asks.Question.time ▷ answer_yes
     ∷ asked (Asks.Question.cost (only (1 ·2^ 2))) ▷ number null
     ∷ asked (Asks.Question.direction false (only (neg (1 ·2^ 1))) (only (1 ·2^ 1))) ▷ vector (only null)
     ∷ asked (Asks.Question.cost (only (1 ·2^ 1))) ▷ number null
@@ -1293,13 +1293,13 @@ at_9_at_every_question_that_can_fail_14 = refl
 
 pub at_6_before_7_before_8_1 :
     Shows (start_inner binary64 (record { n = 2; limit = 1; limited = true; tolerance = int 1; akkt = none }) (null ∷ neg (int 3) ∷ []))
-    (asked (Asks.Question.cost (null ∷ neg (int 3) ∷ [])) ▷ yea
+    (asked (Asks.Question.cost (null ∷ neg (int 3) ∷ [])) ▷ answer_yes
     ∷ turned 7 ▷ vector (null ∷ null ∷ [])
     ∷ turned 7 ▷ number null
     ∷ asked (Asks.Question.gradient (null ∷ neg (int 3) ∷ [])) ▷ vector (only null)
     ∷ turned 8 ▷ vector (null ∷ null ∷ null ∷ [])
     ∷ turned 8 ▷ number null
-    ∷ turned 7 ▷ nay
+    ∷ turned 7 ▷ answer_no
     ∷ turned 7 ▷ vector (null ∷ null ∷ [])
     ∷ asked (Asks.Question.gradient (4951760157141521 /2^ 92 ∷ neg (1688849860263373 /2^ 49) ∷ [])) ▷ vector (null ∷ null ∷ [])
     ∷ asked (Asks.Question.project (4951760157141521 /2^ 92 ∷ neg (1688849860263373 /2^ 49) ∷ [])) ▷ vector (1 /2^ 2 ∷ neg (int 3) ∷ [])

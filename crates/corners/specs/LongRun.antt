@@ -8,7 +8,7 @@ use Rattle.model.specs.Process.{Question, Handed, handed, not_converged_iteratio
 use Rattle.model.specs.State.{Settings}
 use Rattle.model.specs.Refusals.{start_inner}
 use Rattle.model.specs.Play.{scored, began, ended}
-use Rattle.model.specs.Script.{int, ◌·2^◌, ◌/2^◌, only, number, vector, yea, COST, GRADIENT, PROJECT, DIRECTION, TIME, Entry, says, ◌▷◌, answers_in, Goes, all_inner}
+use Rattle.model.specs.Script.{int, ◌·2^◌, ◌/2^◌, only, number, vector, answer_yes, COST, GRADIENT, PROJECT, DIRECTION, TIME, Entry, says, ◌▷◌, answers_in, Goes, all_inner}
 
 -- of an inner solve
 abbrev Transcript : Type 0
@@ -69,7 +69,7 @@ spent h later =
     ∷ COST (near 10) ▷ number null
     ∷ GRADIENT (near 10) ▷ vector (only (int 1))
     ∷ PROJECT (near 9) ▷ vector (near 9)
-    ∷ TIME ▷ yea
+    ∷ TIME ▷ answer_yes
     ∷ says (scored (near 9) (1 /2^ 10))
     ∷ COST (near 9) ▷ number (int 1)
     ∷ rounds nearer 1 10

@@ -7,7 +7,7 @@ use Rattle.model.specs.Process as Asks
 use Rattle.model.specs.Process.{handed, refused, failed, converged, not_converged_iterations, not_converged_out_of_time}
 use Rattle.model.specs.Refusals.{start_loop}
 use Rattle.model.specs.Play.{asked, ended, turned}
-use Rattle.model.specs.Script.{int, ◌·2^◌, ◌/2^◌, only, number, vector, yea, nay, failure, says, ◌▷◌, all_loop}
+use Rattle.model.specs.Script.{int, ◌·2^◌, ◌/2^◌, only, number, vector, answer_yes, answer_no, failure, says, ◌▷◌, all_loop}
 use Rattle.corners.specs.Shown.{Shows, spoken}
 
 -- ---- starts: the sizes, and the lower number first
@@ -696,7 +696,7 @@ pub at_18_the_norm_of_f2_is_nan_1 :
     ∷ asked (Asks.inner (only (int 1)) (Asks.Question.cost (only null))) ▷ number null
     ∷ asked (Asks.LoopQuestion.f2 (only null)) ▷ vector (only nan)
     ∷ asked (Asks.LoopQuestion.cost (only null) (only null)) ▷ number (int 5)
-    ∷ ended (refused 18) ▷ yea
+    ∷ ended (refused 18) ▷ answer_yes
     ∷ says (turned 6)
     ∷ [])
 unfolding all_loop Shows spoken
@@ -758,7 +758,7 @@ pub at_17_a_no_from_the_first_time_1 :
     Shows (start_loop binary64 (record { n = 1; n1 = 1; n2 = 1; set_y = true; limit = 1; outer = 3; limited = true; tolerance = int 1; epsilon = int 1; delta = int 1; akkt = int 1; penalty_factor = 1 ·2^ 1; epsilon_factor = 1 /2^ 1; coefficient = 1 /2^ 1 }) (only (1 /2^ 2)) (int 1 ∷ null ∷ []))
     (asked Asks.LoopQuestion.time ▷ failure 1
     ∷ turned 7 ▷ number (int 1)
-    ∷ turned 7 ▷ nay
+    ∷ turned 7 ▷ answer_no
     ∷ ended (refused 17) ▷ number null
     ∷ says (turned 6)
     ∷ [])
@@ -769,14 +769,14 @@ at_17_a_no_from_the_first_time_1 = refl
 
 pub a_no_from_time_before_the_second_iteration_out_of_time_1 :
     Shows (start_loop binary64 (record { n = 1; n1 = 0; n2 = 1; set_y = false; limit = 1; outer = 3; limited = true; tolerance = int 1; epsilon = int 1; delta = int 1; akkt = int 1; penalty_factor = 1 ·2^ 1; epsilon_factor = 1 /2^ 1; coefficient = 1 /2^ 1 }) (only (1 /2^ 2)) (only (int 1)))
-    (asked Asks.LoopQuestion.time ▷ yea
+    (asked Asks.LoopQuestion.time ▷ answer_yes
     ∷ asked (Asks.inner (only (int 1)) (Asks.Question.cost (only (1 /2^ 2)))) ▷ number null
     ∷ asked (Asks.inner (only (int 1)) (Asks.Question.gradient (only (1 /2^ 2)))) ▷ vector (only null)
     ∷ asked (Asks.inner (only (int 1)) (Asks.Question.gradient (only (4503604130970123 /2^ 54)))) ▷ vector (only null)
     ∷ asked (Asks.inner (only (int 1)) (Asks.Question.project (only (4503604130970123 /2^ 54)))) ▷ vector (only null)
     ∷ asked (Asks.inner (only (int 1)) (Asks.Question.cost (only null))) ▷ number null
     ∷ asked (Asks.LoopQuestion.f2 (only null)) ▷ vector (only (1 ·2^ 3))
-    ∷ asked Asks.LoopQuestion.time ▷ nay
+    ∷ asked Asks.LoopQuestion.time ▷ answer_no
     ∷ asked (Asks.LoopQuestion.cost (only null) (only null)) ▷ number (int 5)
     ∷ says (ended (handed (record { plan = (only null); multipliers = []; penalty = int 1; status = not_converged_out_of_time; outer = 1; inner = 0; norm = 4503604130970123 /2^ 54; delta_y = null; f2 = 1 ·2^ 3; cost = int 5 })))
     ∷ [])
@@ -787,7 +787,7 @@ a_no_from_time_before_the_second_iteration_out_of_time_1 = refl
 
 pub a_solve_out_of_time_its_iteration_is_finished_1 :
     Shows (start_loop binary64 (record { n = 1; n1 = 1; n2 = 1; set_y = true; limit = 3; outer = 3; limited = true; tolerance = int 1; epsilon = int 1; delta = int 1; akkt = int 1; penalty_factor = 1 ·2^ 1; epsilon_factor = 1 /2^ 1; coefficient = 1 /2^ 1 }) (only (1 /2^ 2)) (int 1 ∷ null ∷ []))
-    (asked Asks.LoopQuestion.time ▷ yea
+    (asked Asks.LoopQuestion.time ▷ answer_yes
     ∷ asked (Asks.LoopQuestion.project_y (only null)) ▷ vector (only (1 /2^ 1))
     ∷ asked (Asks.inner (int 1 ∷ 1 /2^ 1 ∷ []) (Asks.Question.cost (only (1 /2^ 2)))) ▷ number null
     ∷ asked (Asks.inner (int 1 ∷ 1 /2^ 1 ∷ []) (Asks.Question.gradient (only (1 /2^ 2)))) ▷ vector (only null)
@@ -798,7 +798,7 @@ pub a_solve_out_of_time_its_iteration_is_finished_1 :
     ∷ asked (Asks.inner (int 1 ∷ 1 /2^ 1 ∷ []) (Asks.Question.cost (only (1 ·2^ 2)))) ▷ number null
     ∷ asked (Asks.inner (int 1 ∷ 1 /2^ 1 ∷ []) (Asks.Question.gradient (only (1 ·2^ 2)))) ▷ vector (only null)
     ∷ asked (Asks.inner (int 1 ∷ 1 /2^ 1 ∷ []) (Asks.Question.project (only (1 ·2^ 2)))) ▷ vector (only (17 /2^ 2))
-    ∷ asked (Asks.inner (int 1 ∷ 1 /2^ 1 ∷ []) Asks.Question.time) ▷ nay
+    ∷ asked (Asks.inner (int 1 ∷ 1 /2^ 1 ∷ []) Asks.Question.time) ▷ answer_no
     ∷ asked (Asks.inner (int 1 ∷ 1 /2^ 1 ∷ []) (Asks.Question.cost (only (17 /2^ 2)))) ▷ number null
     ∷ asked (Asks.LoopQuestion.f1 (only (17 /2^ 2))) ▷ vector (only (1 ·2^ 3))
     ∷ asked (Asks.LoopQuestion.project_c (only (17 /2^ 1))) ▷ vector (only null)
@@ -811,7 +811,7 @@ a_solve_out_of_time_its_iteration_is_finished_1 = refl
 
 pub a_solve_out_of_time_its_iteration_is_finished_2 :
     Shows (start_loop binary64 (record { n = 1; n1 = 1; n2 = 1; set_y = true; limit = 3; outer = 1; limited = true; tolerance = int 1; epsilon = int 1; delta = int 1; akkt = int 1; penalty_factor = 1 ·2^ 1; epsilon_factor = 1 /2^ 1; coefficient = 1 /2^ 1 }) (only (1 /2^ 2)) (int 1 ∷ null ∷ []))
-    (asked Asks.LoopQuestion.time ▷ yea
+    (asked Asks.LoopQuestion.time ▷ answer_yes
     ∷ asked (Asks.LoopQuestion.project_y (only null)) ▷ vector (only (1 /2^ 1))
     ∷ asked (Asks.inner (int 1 ∷ 1 /2^ 1 ∷ []) (Asks.Question.cost (only (1 /2^ 2)))) ▷ number null
     ∷ asked (Asks.inner (int 1 ∷ 1 /2^ 1 ∷ []) (Asks.Question.gradient (only (1 /2^ 2)))) ▷ vector (only null)
@@ -822,7 +822,7 @@ pub a_solve_out_of_time_its_iteration_is_finished_2 :
     ∷ asked (Asks.inner (int 1 ∷ 1 /2^ 1 ∷ []) (Asks.Question.cost (only (1 ·2^ 2)))) ▷ number null
     ∷ asked (Asks.inner (int 1 ∷ 1 /2^ 1 ∷ []) (Asks.Question.gradient (only (1 ·2^ 2)))) ▷ vector (only null)
     ∷ asked (Asks.inner (int 1 ∷ 1 /2^ 1 ∷ []) (Asks.Question.project (only (1 ·2^ 2)))) ▷ vector (only (17 /2^ 2))
-    ∷ asked (Asks.inner (int 1 ∷ 1 /2^ 1 ∷ []) Asks.Question.time) ▷ nay
+    ∷ asked (Asks.inner (int 1 ∷ 1 /2^ 1 ∷ []) Asks.Question.time) ▷ answer_no
     ∷ asked (Asks.inner (int 1 ∷ 1 /2^ 1 ∷ []) (Asks.Question.cost (only (17 /2^ 2)))) ▷ number null
     ∷ asked (Asks.LoopQuestion.f1 (only (17 /2^ 2))) ▷ vector (only (1 ·2^ 3))
     ∷ asked (Asks.LoopQuestion.project_c (only (17 /2^ 1))) ▷ vector (only null)
@@ -835,7 +835,7 @@ a_solve_out_of_time_its_iteration_is_finished_2 = refl
 
 pub a_solve_out_of_time_its_iteration_is_finished_3 :
     Shows (start_loop binary64 (record { n = 1; n1 = 0; n2 = 1; set_y = false; limit = 3; outer = 1; limited = true; tolerance = int 1; epsilon = int 1; delta = int 1; akkt = int 1; penalty_factor = 1 ·2^ 1; epsilon_factor = 1 /2^ 1; coefficient = 1 /2^ 1 }) (only (1 /2^ 2)) (only (int 1)))
-    (asked Asks.LoopQuestion.time ▷ yea
+    (asked Asks.LoopQuestion.time ▷ answer_yes
     ∷ asked (Asks.inner (only (int 1)) (Asks.Question.cost (only (1 /2^ 2)))) ▷ number null
     ∷ asked (Asks.inner (only (int 1)) (Asks.Question.gradient (only (1 /2^ 2)))) ▷ vector (only null)
     ∷ asked (Asks.inner (only (int 1)) (Asks.Question.gradient (only (4503604130970123 /2^ 54)))) ▷ vector (only null)
@@ -845,7 +845,7 @@ pub a_solve_out_of_time_its_iteration_is_finished_3 :
     ∷ asked (Asks.inner (only (int 1)) (Asks.Question.cost (only (1 ·2^ 2)))) ▷ number null
     ∷ asked (Asks.inner (only (int 1)) (Asks.Question.gradient (only (1 ·2^ 2)))) ▷ vector (only null)
     ∷ asked (Asks.inner (only (int 1)) (Asks.Question.project (only (1 ·2^ 2)))) ▷ vector (only (17 /2^ 2))
-    ∷ asked (Asks.inner (only (int 1)) Asks.Question.time) ▷ nay
+    ∷ asked (Asks.inner (only (int 1)) Asks.Question.time) ▷ answer_no
     ∷ asked (Asks.inner (only (int 1)) (Asks.Question.cost (only (17 /2^ 2)))) ▷ number null
     ∷ asked (Asks.LoopQuestion.f2 (only (17 /2^ 2))) ▷ vector (only (1 /2^ 1))
     ∷ asked (Asks.LoopQuestion.cost (only (17 /2^ 2)) (only null)) ▷ number (int 5)

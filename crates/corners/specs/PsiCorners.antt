@@ -7,7 +7,7 @@ use Rattle.model.specs.Process as Asks
 use Rattle.model.specs.Process.{handed, refused, failed}
 use Rattle.model.specs.Refusals.{start_psi}
 use Rattle.model.specs.Play.{asked, ended, turned}
-use Rattle.model.specs.Script.{int, ◌·2^◌, ◌/2^◌, only, number, vector, yea, failure, says, ◌▷◌, all_psi}
+use Rattle.model.specs.Script.{int, ◌·2^◌, ◌/2^◌, only, number, vector, answer_yes, failure, says, ◌▷◌, all_psi}
 use Rattle.corners.specs.Shown.{Shows, spoken}
 
 -- ---- starts: the sizes, and the lower number first
@@ -163,7 +163,7 @@ psi_y_by_the_larger_of_c_and_1_9 = refl
 
 pub psi_y_by_the_larger_of_c_and_1_10 :
     Shows (start_psi binary64 (record { n = 2; n1 = 2; n2 = 1 }) (1 ·2^ 1 ∷ int 1 ∷ []) (int 3 ∷ 1 /2^ 1 ∷ neg (1 /2^ 1) ∷ []))
-    (asked (Asks.PsiQuestion.cost (1 ·2^ 1 ∷ int 1 ∷ [])) ▷ yea
+    (asked (Asks.PsiQuestion.cost (1 ·2^ 1 ∷ int 1 ∷ [])) ▷ answer_yes
     ∷ turned 7 ▷ vector (only (int 1))
     ∷ turned 7 ▷ number (int 1)
     ∷ asked (Asks.PsiQuestion.f1 (1 ·2^ 1 ∷ int 1 ∷ [])) ▷ vector (only (1 /2^ 2))

@@ -11,7 +11,7 @@ use Rattle.model.specs.Loop.{LoopSettings}
 use Rattle.model.specs.Psi.{Sizes}
 use Rattle.model.specs.Refusals.{start_inner, start_loop, start_psi, start_d_psi}
 use Rattle.model.specs.Play.{asked, scored, began, ended}
-use Rattle.model.specs.Script.{int, ◌·2^◌, ◌/2^◌, only, number, vector, yea, COST, GRADIENT, PROJECT, DIRECTION, COST_in, GRADIENT_in, PROJECT_in, DIRECTION_in, TIME_in, says, ◌▷◌, Goes, all_inner, all_loop, all_psi}
+use Rattle.model.specs.Script.{int, ◌·2^◌, ◌/2^◌, only, number, vector, answer_yes, COST, GRADIENT, PROJECT, DIRECTION, COST_in, GRADIENT_in, PROJECT_in, DIRECTION_in, TIME_in, says, ◌▷◌, Goes, all_inner, all_loop, all_psi}
 
 -- ---- the loop with nothing but u, twice: each inner solve starts its previous gradient at zeros (docs/DIFFERENCES.md, 1). With the gradient of the solve before, the second solve would end at once
 
@@ -216,7 +216,7 @@ thrice =
 -- c is multiplied at the second iteration and not at the first, and y_plus is handed back
 pub multiplied_once :
     Goes (start_loop binary64 thrice here (int 1 ∷ 1 ·2^ 1 ∷ []))
-    (asked Asks.LoopQuestion.time ▷ yea
+    (asked Asks.LoopQuestion.time ▷ answer_yes
     ∷ asked (Asks.LoopQuestion.project_y (only (1 ·2^ 1))) ▷ vector (only (int 1))
     ∷ says began
     ∷ COST_in xi1 here ▷ number null
@@ -229,7 +229,7 @@ pub multiplied_once :
     ∷ asked (Asks.LoopQuestion.f1 here) ▷ vector (only (int 3))
     ∷ asked (Asks.LoopQuestion.project_c (only (1 ·2^ 2))) ▷ vector (only (neg (int 1)))
     ∷ asked (Asks.LoopQuestion.f2 here) ▷ vector (only (1 ·2^ 2))
-    ∷ asked Asks.LoopQuestion.time ▷ yea
+    ∷ asked Asks.LoopQuestion.time ▷ answer_yes
     ∷ asked (Asks.LoopQuestion.project_y (only (int 5))) ▷ vector (only (int 5))
     ∷ says began
     ∷ COST_in xi2 here ▷ number null
@@ -242,14 +242,14 @@ pub multiplied_once :
     ∷ COST_in xi2 there ▷ number null
     ∷ GRADIENT_in xi2 there ▷ vector at0
     ∷ PROJECT_in xi2 there ▷ vector there
-    ∷ TIME_in xi2 ▷ yea
+    ∷ TIME_in xi2 ▷ answer_yes
     ∷ says (scored there null)
     ∷ says (scored there null)
     ∷ COST_in xi2 there ▷ number null
     ∷ asked (Asks.LoopQuestion.f1 there) ▷ vector (only (int 1))
     ∷ asked (Asks.LoopQuestion.project_c (only (3 ·2^ 1))) ▷ vector (only (int 5))
     ∷ asked (Asks.LoopQuestion.f2 there) ▷ vector (only (int 1))
-    ∷ asked Asks.LoopQuestion.time ▷ yea
+    ∷ asked Asks.LoopQuestion.time ▷ answer_yes
     ∷ asked (Asks.LoopQuestion.project_y (only (int 1))) ▷ vector (only (int 1))
     ∷ says began
     ∷ COST_in xi3 there ▷ number null

@@ -95,14 +95,14 @@ module _ (f : Format) where
   either s b true p q l m c d = c
   either s b false p q l m c d = d
 
-  -- ---- the half step held to a ceiling that is kept
+  -- ---- the half step held to a lipschitz_check_rhs that is kept
   doubling_kept : (s : Settings) (e : Status) (next : I.Next) (k : ℕ) (forget : Bool) (st : State) (c : Float)
-      → doubling_at f s e next k forget (I.ceiling f st) st c ≡ I.doubling f s k e next forget st c
+      → doubling_at f s e next k forget (I.lipschitz_check_rhs f st) st c ≡ I.doubling f s k e next forget st c
   unfolding doubling_at I.doubling
   doubling_kept s e next zero forget st c = refl
   doubling_kept s e next (suc k) forget st c = refl
 
-  half_cost_kept : (s : Settings) (e : Status) (next : I.Next) (st : State) → half_cost_at f s e next (I.ceiling f st) st ≡ I.half_cost f s e next st
+  half_cost_kept : (s : Settings) (e : Status) (next : I.Next) (st : State) → half_cost_at f s e next (I.lipschitz_check_rhs f st) st ≡ I.half_cost f s e next st
   unfolding half_cost_at I.half_cost
   half_cost_kept s e next st =
       fun_ext (λ c. ap (λ (p : Solve). cond (finite c) p (stop (refused 11))) (doubling_kept s e next max_lipschitz_updates (eqb st.at.count 0) st c))
@@ -119,7 +119,7 @@ module _ (f : Format) where
       score_goes _ _ _ _ _ _
       (either _ _ (I.passes f r.set (I.entered f r.set r.state.at)) _ _ _ _
       (finish_goes (entered f r) ok)
-      (asks_goes (record (entered f r) { rhs = I.ceiling f (I.entered f r.set r.state.at) }) Phase.half_cost _ _ _ ok
+      (asks_goes (record (entered f r) { rhs = I.lipschitz_check_rhs f (I.entered f r.set r.state.at) }) Phase.half_cost _ _ _ ok
       (ap (λ (k : Float → Solve). ask (Question.cost r.state.at.half) Kind.number k) (half_cost_kept r.set r.status (next_of f r) (I.entered f r.set r.state.at)))))
 
   pub timed_goes : (r : Run) → Sound r → (t : Bool) → Goes f r.set r.beyond (I.timed f r.set r.left (next_of f r) r.state.at t) (Move.timed f t r)

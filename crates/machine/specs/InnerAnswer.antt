@@ -6,7 +6,7 @@ use Rattle.model.specs.Process.{Kind, Question, converged}
 use Rattle.model.specs.State.{Settings}
 use Rattle.model.specs.Refusals.{Reply, answer_refusal, inner_refusal}
 use Rattle.machine.specs.Told as Say
-use Rattle.machine.specs.Waits.{Moves, taken, unless_refused, strange}
+use Rattle.machine.specs.Waits.{Moves, taken, unless_refused, of_no_kind}
 pub use Rattle.machine.specs.Shown.{Shown}
 use Rattle.machine.specs.Shown.{shown}
 use Rattle.machine.specs.InnerRun.{Phase, Asked, Run, Left, fails}
@@ -111,7 +111,7 @@ module _ (f : Format) where
 
   -- any answer that C can give: none is of a kind of no name
   unfoldable pub answer_any : Run → Option Reply → List Float → List Float → Left
-  answer_any r none v us = turns r (strange (wanted_by r))
+  answer_any r none v us = turns r (of_no_kind (wanted_by r))
   answer_any r (some a) v us = answer r a v us
 
 -- ---- start

@@ -7,14 +7,14 @@ use Rattle.ieee.specs.Sums.{norm}
 use Rattle.model.specs.Constants.{one, two, max_lipschitz_constant, max_lipschitz_updates, max_linesearch_iterations}
 use Rattle.model.specs.Vectors.{all_finite, minus, less_times, shifts, shifted, estimate}
 use Rattle.model.specs.Process.{Status, converged, not_converged_iterations, not_converged_out_of_time}
-use Rattle.model.specs.State.{Opening, keep, with_u, with_cost, with_gradient, with_half, with_sigma, with_kept, counted}
+use Rattle.model.specs.State.{Opening, keep, with_u, with_cost, with_gradient, with_half, with_sigma, with_kept, step_counted}
 use Rattle.model.specs.Inner as I
 use Rattle.machine.specs.Told as Say
 use Rattle.machine.specs.InnerRun.{Phase, Asked, Run, Left, with_state, with_iterate, asks, stops}
 
 -- a run where one step more is done, and l more may begin
 abbrev pub stepped : ℕ → Run → Run
-stepped l r = record (with_iterate (counted r.state.at) r) { left = l }
+stepped l r = record (with_iterate (step_counted r.state.at) r) { left = l }
 
 module _ (f : Format) where
   -- ---- after the last step: the score, and COST at the best half step
@@ -32,7 +32,7 @@ module _ (f : Format) where
   step r =
       cond (I.passes f r.set (I.entered f r.set r.state.at))
       (finish (entered r))
-      (asks Asked.cost Phase.half_cost (record (entered r) { rhs = I.ceiling f (I.entered f r.set r.state.at) }))
+      (asks Asked.cost Phase.half_cost (record (entered r) { rhs = I.lipschitz_check_rhs f (I.entered f r.set r.state.at) }))
 
   -- ---- between steps
   unfoldable pub timed : Bool → Run → Left
@@ -112,7 +112,7 @@ module _ (f : Format) where
       (ask_direction r)
 
   abbrev pub renewed : Run → Run
-  renewed r = record (with_state (I.renewed f r.set r.state.at) r) { rhs = I.ceiling f (I.renewed f r.set r.state.at); forget = true }
+  renewed r = record (with_state (I.renewed f r.set r.state.at) r) { rhs = I.lipschitz_check_rhs f (I.renewed f r.set r.state.at); forget = true }
 
   unfoldable pub doubled_cost : Float → Run → Left
   doubled_cost x r = cond (finite x) (doubling r.rounds x (renewed r)) (stops 12 r)

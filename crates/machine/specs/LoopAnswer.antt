@@ -7,7 +7,7 @@ use Rattle.model.specs.Process.{Kind, Question, LoopQuestion, converged}
 use Rattle.model.specs.Loop.{LoopSettings, xi_of, penalty_of}
 use Rattle.model.specs.Refusals.{Reply, answer_refusal, loop_refusal, penalty_in, multipliers_in}
 use Rattle.machine.specs.Told as Say
-use Rattle.machine.specs.Waits.{Moves, taken, unless_refused, strange}
+use Rattle.machine.specs.Waits.{Moves, taken, unless_refused, of_no_kind}
 use Rattle.machine.specs.Shown.{Shown, shown}
 use Rattle.machine.specs.InnerAnswer as Inner
 use Rattle.machine.specs.LoopRun.{Phase, Run, Left, u_of, plan_of, fails}
@@ -100,7 +100,7 @@ module _ (f : Format) where
 
   -- any answer that C can give: none is of a kind of no name
   unfoldable pub answer_any : Run → Option Reply → List Float → List Float → List Float → Left
-  answer_any r none v us xs = turns r (strange (wanted_by r))
+  answer_any r none v us xs = turns r (of_no_kind (wanted_by r))
   answer_any r (some a) v us xs = answer r a v us xs
 
 -- ---- start

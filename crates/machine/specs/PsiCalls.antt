@@ -7,7 +7,7 @@ use Rattle.model.specs.Process.{Kind, Process, PsiQuestion, DPsi}
 use Rattle.model.specs.Psi.{Sizes}
 use Rattle.model.specs.Refusals.{Reply, wanted, answer_refusal, accept, lent_after, psi_refusal, penalty_in, multipliers_in}
 use Rattle.machine.specs.Told as Say
-use Rattle.machine.specs.Waits.{strange}
+use Rattle.machine.specs.Waits.{of_no_kind}
 use Rattle.machine.specs.InnerCalls.{asking}
 use Rattle.machine.specs.PsiRun.{Asked, PsiPhase, DPsiPhase, Run, Left, PsiRun, PsiLeft, DPsiRun, DPsiLeft, asks, refuses}
 use Rattle.machine.specs.PsiMoves.{psi_move, d_psi_move}
@@ -90,11 +90,11 @@ module _ (f : Format) where
 
   -- any answer that C can give: none is of a kind of no name
   unfoldable pub psi_answer_any : Option Reply → List Float → PsiRun → PsiLeft
-  psi_answer_any none v r = refuses (strange (waits psi_kind_at r.sizes r.phase)) r
+  psi_answer_any none v r = refuses (of_no_kind (waits psi_kind_at r.sizes r.phase)) r
   psi_answer_any (some a) v r = psi_answer a v r
 
   unfoldable pub d_psi_answer_any : Option Reply → List Float → List Float → DPsiRun → DPsiLeft
-  d_psi_answer_any none v us r = refuses (strange (waits d_psi_kind_at r.sizes r.phase)) r
+  d_psi_answer_any none v us r = refuses (of_no_kind (waits d_psi_kind_at r.sizes r.phase)) r
   d_psi_answer_any (some a) v us r = d_psi_answer a v us r
 
   -- ---- the same in terms of the process: where the table refuses, its number and the run unchanged; else what the process comes to

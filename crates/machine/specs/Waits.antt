@@ -32,11 +32,11 @@ unless_refused (suc k) turns l = turns (suc k)
 -- ---- any answer that C can give: none is of a kind of no name
 
 -- it gets 6 where the run has ended, else 7
-unfoldable pub strange : Option Kind → ℕ
-strange none = 6
-strange (some k) = 7
+unfoldable pub of_no_kind : Option Kind → ℕ
+of_no_kind none = 6
+of_no_kind (some k) = 7
 
 -- the number by which the table refuses it, 0 for none; vs and lent as in `answer_refusal`
 unfoldable pub any_refusal : Option Kind → Option Reply → ℕ → Bool → ℕ
-any_refusal w none vs lent = strange w
+any_refusal w none vs lent = of_no_kind w
 any_refusal w (some a) vs lent = answer_refusal w a vs lent

@@ -11,8 +11,8 @@ use Rattle.std.specs.Float.Ieee.Scale.{finite}
 use Rattle.model.specs.Constants.{max_lipschitz_constant, max_lipschitz_updates, max_linesearch_iterations}
 use Rattle.model.specs.Vectors.{all_finite}
 use Rattle.model.specs.Process.{handed, refused, failed, Process, ask, score, begin, stop, within, Question, Status, converged, not_converged_iterations, not_converged_out_of_time, Solve}
-use Rattle.model.specs.State.{Settings, Iterate, State, counted}
-use Rattle.model.specs.Inner.{Next, ceiling, renewed, doubled, passes, entered, begun, finish, last_test, last_cost, onward, first_move, first_cost, first_gradient, first_project, tried_project, tried_gradient, tried_cost, trial, retry, search, directed, ask_direction, doubled_cost, doubled_project, doubling, half_cost, tested, step, standing, timed, laps, solve, start_cost, start_gradient, start_shifted, start_project}
+use Rattle.model.specs.State.{Settings, Iterate, State, step_counted}
+use Rattle.model.specs.Inner.{Next, lipschitz_check_rhs, renewed, doubled, passes, entered, begun, finish, last_test, last_cost, onward, first_move, first_cost, first_gradient, first_project, tried_project, tried_gradient, tried_cost, trial, retry, search, directed, ask_direction, doubled_cost, doubled_project, doubling, half_cost, tested, step, standing, timed, laps, solve, start_cost, start_gradient, start_shifted, start_project}
 use Rattle.model.specs.Psi.{Sizes}
 use Rattle.model.specs.Psi as Penalty
 use Rattle.model.specs.Bounds.{AtMost, Weights, all, move, moves, only_cost, only_direction, only_gradient, only_project, only_time, solve_bound, weigh}
@@ -123,7 +123,7 @@ module _ (f : Format) (s : Settings) (w : Weights) where
     doubling_at_most zero e forget st c = at_most_more _ (ask_direction f s e next forget st) _ _ (omega arith) (direction_at_most e forget st)
     doubling_at_most (suc k) e forget st c =
         let m = w.direction + (moves (eqb st.at.count 0) * move w + n) in
-        at_most_cond _ _ (lt (ceiling f st) c && lt st.at.lipschitz (max_lipschitz_constant f)) _ _ (
+        at_most_cond _ _ (lt (lipschitz_check_rhs f st) c && lt st.at.lipschitz (max_lipschitz_constant f)) _ _ (
           w.cost + (k * (w.project + w.cost) + m),
           omega arith,
           λ h.
@@ -140,8 +140,8 @@ module _ (f : Format) (s : Settings) (w : Weights) where
         (max_lipschitz_updates * (w.project + w.cost) + m, omega arith, λ c. at_most_cond _ _ (finite c) _ _ (doubling_at_most max_lipschitz_updates e _ (entered f s i) c) tt)
 
     -- a step that is not the first
-    later_at_most : (e : Status) (i : Iterate) → AtMost (weigh w) (step f s e next (counted i)) (22 * w.cost + 11 * w.gradient + 21 * w.project + w.direction + n)
-    later_at_most e i = at_most_more _ (step f s e next (counted i)) _ _ (omega (arith, ap (λ (k : ℕ). k * move w) later)) (step_at_most e (counted i))
+    later_at_most : (e : Status) (i : Iterate) → AtMost (weigh w) (step f s e next (step_counted i)) (22 * w.cost + 11 * w.gradient + 21 * w.project + w.direction + n)
+    later_at_most e i = at_most_more _ (step f s e next (step_counted i)) _ _ (omega (arith, ap (λ (k : ℕ). k * move w) later)) (step_at_most e (step_counted i))
       where
         later : moves (eqb (i.count + 1) 0) ≡ 11
         later = ap (λ (k : ℕ). moves (eqb k 0)) (add-one i.count) ∙ ap moves (eqb-suc-zero i.count)
@@ -154,9 +154,9 @@ module _ (f : Format) (s : Settings) (w : Weights) where
   unfolding laps timed weigh
   laps_at_most zero i = at_most_more _ (finish f s _ i) _ _ (omega arith) (finish_at_most _ i)
   laps_at_most (suc l) i =
-      let lap : (e : Status) → AtMost (weigh w) (step f s e (laps f s l) (counted i)) _ = λ e. later_at_most (laps f s l) (laps_bound l) (omega arith) (laps_at_most l) e i in
+      let lap : (e : Status) → AtMost (weigh w) (step f s e (laps f s l) (step_counted i)) _ = λ e. later_at_most (laps f s l) (laps_bound l) (omega arith) (laps_at_most l) e i in
       at_most_cond _ _ s.limited _ _ (22 * w.cost + 11 * w.gradient + 21 * w.project + w.direction + laps_bound l, omega arith, λ inTime. lap _)
-      (at_most_more _ (step f s (standing f s l true) (laps f s l) (counted i)) _ _ (omega arith) (lap _))
+      (at_most_more _ (step f s (standing f s l true) (laps f s l) (step_counted i)) _ _ (omega arith) (lap _))
 
 -- an inner solve with M = s.limit
 pub solve_at_most : (f : Format) (s : Settings) (w : Weights) (u : List Float) → AtMost (weigh w) (solve f s u) (solve_bound w s.limit)

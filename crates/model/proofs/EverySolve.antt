@@ -15,8 +15,8 @@ use Rattle.ieee.proofs.Sums.{norm_upward}
 use Rattle.model.specs.Constants.{max_lipschitz_constant, max_lipschitz_updates, max_linesearch_iterations}
 use Rattle.model.specs.Vectors.{all_finite, minus}
 use Rattle.model.specs.Process.{Status, converged, not_converged_iterations, not_converged_out_of_time, Solve}
-use Rattle.model.specs.State.{Settings, Best, keep, Iterate, State, counted}
-use Rattle.model.specs.Inner.{Next, ceiling, renewed, doubled, passes, entered, opening, begun, finish, last_test, last_cost, onward, first_move, first_cost, first_gradient, first_project, tried_project, tried_gradient, tried_cost, trial, retry, search, directed, ask_direction, doubled_cost, doubled_project, doubling, half_cost, tested, step, standing, timed, laps, solve, start_cost, start_gradient, start_shifted, start_project}
+use Rattle.model.specs.State.{Settings, Best, keep, Iterate, State, step_counted}
+use Rattle.model.specs.Inner.{Next, lipschitz_check_rhs, renewed, doubled, passes, entered, opening, begun, finish, last_test, last_cost, onward, first_move, first_cost, first_gradient, first_project, tried_project, tried_gradient, tried_cost, trial, retry, search, directed, ask_direction, doubled_cost, doubled_project, doubling, half_cost, tested, step, standing, timed, laps, solve, start_cost, start_gradient, start_shifted, start_project}
 use Rattle.model.proofs.Facts.{and_left, iterations_not, time_not, minus_size, shifted_size, candidate_size}
 use Rattle.model.specs.Paths.{both, Along}
 use Rattle.model.proofs.Paths.{along_cond, along_left, along_right}
@@ -149,7 +149,7 @@ module _ (f : Format) (s : Settings) (G : Type 0) (positive : G → T (upward s.
     unfolding doubling doubled_project doubled_cost renewed doubled after seen vector_in
     doubling_good zero e forget x st v n c y m = direction_good e forget x st n c y m
     doubling_good (suc j) e forget x st v n c y m =
-        along_cond _ _ _ (lt (ceiling f st) v && lt st.at.lipschitz (max_lipschitz_constant f)) _ _ (λ t h p w r.
+        along_cond _ _ _ (lt (lipschitz_check_rhs f st) v && lt st.at.lipschitz (max_lipschitz_constant f)) _ _ (λ t h p w r.
         along_cond _ _ _ (finite w) _ _ (λ o.
         doubling_good j e true _ (renewed f s _) w n c (record { point = y.point; answer = refl; size = y.size; size_half = p }) (λ g. minus_size f s.n st.at.u h (y.size g) p)) (λ o. tt))
         (λ t. direction_good e forget x st n c y m)
@@ -171,7 +171,7 @@ module _ (f : Format) (s : Settings) (G : Type 0) (positive : G → T (upward s.
   laps_good (suc j) k l x i n c y =
       let go = step_good (k + 1) (omega arith) (laps f s j) (laps_good j (k + 1) (omega arith)) in
       let m : i.count + 1 ≡ k + 1 = omega arith in
-      along_cond _ _ _ s.limited _ _ (λ t inTime r. go (standing f s j inTime) x (counted i) m c y) (λ t. go (standing f s j true) x (counted i) m c y)
+      along_cond _ _ _ s.limited _ _ (λ t inTime r. go (standing f s j inTime) x (step_counted i) m c y) (λ t. go (standing f s j true) x (step_counted i) m c y)
 
   pub solve_good : (u : List Float) → (G → length u ≡ s.n) → (x : Trail) → x.1.1.solves + 1 ≡ a → x.1.1.scores ≡ b → Good x (solve f s u)
   unfolding solve start_cost start_gradient start_shifted start_project begun opening after seen vector_in

@@ -9,8 +9,8 @@ use Rattle.std.specs.Float.Ieee.Scale.{finite}
 use Rattle.model.specs.Constants.{max_lipschitz_constant, max_lipschitz_updates, max_linesearch_iterations}
 use Rattle.model.specs.Vectors.{all_finite}
 use Rattle.model.specs.Process.{handed, refused, failed, Process, ask, score, begin, stop, within, Status, converged, not_converged_iterations, not_converged_out_of_time, Solve, Loop}
-use Rattle.model.specs.State.{Settings, Iterate, State, counted}
-use Rattle.model.specs.Inner.{Next, ceiling, passes, entered, finish, last_test, last_cost, onward, first_move, first_cost, first_gradient, first_project, tried_project, tried_gradient, tried_cost, trial, retry, search, directed, ask_direction, doubled_cost, doubled_project, doubling, half_cost, tested, step, timed, laps, solve, start_cost, start_gradient, start_shifted, start_project}
+use Rattle.model.specs.State.{Settings, Iterate, State, step_counted}
+use Rattle.model.specs.Inner.{Next, lipschitz_check_rhs, passes, entered, finish, last_test, last_cost, onward, first_move, first_cost, first_gradient, first_project, tried_project, tried_gradient, tried_cost, trial, retry, search, directed, ask_direction, doubled_cost, doubled_project, doubling, half_cost, tested, step, timed, laps, solve, start_cost, start_gradient, start_shifted, start_project}
 use Rattle.model.specs.Loop.{LoopSettings, LoopState, Found}
 use Rattle.model.specs.Loop as Outer
 use Rattle.model.specs.Psi.{Sizes}
@@ -81,7 +81,7 @@ module _ (f : Format) (s : Settings) where
     unfolding doubling doubled_project doubled_cost
     doubling_good zero e forget st c = direction_good e forget st
     doubling_good (suc k) e forget st c =
-        refuses_cond _ (lt (ceiling f st) c && lt st.at.lipschitz (max_lipschitz_constant f)) _ _
+        refuses_cond _ (lt (lipschitz_check_rhs f st) c && lt st.at.lipschitz (max_lipschitz_constant f)) _ _
         (λ h v. refuses_cond _ (finite v) _ _ (doubling_good k e true _ v) (omega arith)) (direction_good e forget st)
 
     step_good : (e : Status) (i : Iterate) → Good (step f s e next i)
@@ -94,7 +94,7 @@ module _ (f : Format) (s : Settings) where
   unfolding laps timed
   laps_good zero i = finish_good _ i
   laps_good (suc l) i =
-      refuses_cond _ s.limited _ _ (λ t. step_good (laps f s l) (laps_good l) _ (counted i)) (step_good (laps f s l) (laps_good l) _ (counted i))
+      refuses_cond _ s.limited _ _ (λ t. step_good (laps f s l) (laps_good l) _ (step_counted i)) (step_good (laps f s l) (laps_good l) _ (step_counted i))
 
   pub solve_refuses : (u : List Float) → Refuses (Among 10 16) (solve f s u)
   unfolding solve start_cost start_gradient start_shifted start_project

@@ -10,7 +10,7 @@ use Rattle.model.specs.Constants.{gamma_l_coeff, min_l_estimate, lipschitz_updat
 use Rattle.model.specs.Vectors.{all_finite, minus, less_times, plus_times, dot, shifts, shifted, estimate}
 use Rattle.model.specs.Process.{Kind, number, vector, direction, decision, End, handed, refused, ask, score, begin, stop, Question, cost, gradient, project, time, Status, converged, not_converged_iterations, not_converged_out_of_time, Handed, Solve}
 use Rattle.model.specs.Process as Asks
-use Rattle.model.specs.State.{Settings, Best, no_best, keep, Opening, Iterate, State, with_u, with_cost, with_gradient, with_half, with_gamma, with_sigma, with_kept, counted, onto}
+use Rattle.model.specs.State.{Settings, Best, no_best, keep, Opening, Iterate, State, with_u, with_cost, with_gradient, with_half, with_gamma, with_sigma, with_kept, step_counted, onto}
 
 -- ---- the formulas
 
@@ -28,8 +28,8 @@ module _ (f : Format) where
   akkt_residual st = norm f (plus_times f st.at.gamma st.residual (minus f st.at.gradient st.at.previous))
 
   -- what the cost at the half step is held to: "cost + 1e-6 × |cost| - (gradient · residual) + (0.95 / (2 × γ)) × norm × norm"
-  unfoldable pub ceiling : State → Float
-  ceiling st =
+  unfoldable pub lipschitz_check_rhs : State → Float
+  lipschitz_check_rhs st =
       add f
       (sub f (add f st.at.cost (mul f (lipschitz_update_epsilon f) (absolute st.at.cost))) (dot f st.at.gradient st.residual))
       (mul f (mul f (div f (gamma_l_coeff f) (mul f (two f) st.at.gamma)) st.norm) st.norm)
@@ -166,7 +166,7 @@ module _ (f : Format) (s : Settings) where
   unfoldable pub doubling : ℕ → Status → Next → Bool → State → Float → Solve
   doubling zero e next forget st c = ask_direction e next forget st
   doubling (suc k) e next forget st c =
-      cond (lt (ceiling f st) c && lt st.at.lipschitz (max_lipschitz_constant f))
+      cond (lt (lipschitz_check_rhs f st) c && lt st.at.lipschitz (max_lipschitz_constant f))
       (ask (project (doubled st.at).gradient_step) (vector s.n) (doubled_project (doubling k e next true) (doubled st.at)))
       (ask_direction e next forget st)
 
@@ -212,10 +212,10 @@ module _ (f : Format) (s : Settings) where
   unfoldable pub timed : ℕ → Next → Iterate → Bool → Solve
   timed l next i inTime = step (standing l inTime) next i
 
-  -- "Between steps TIME is asked if a limit is set": at most l steps more, and the next one is counted
+  -- "Between steps TIME is asked if a limit is set": at most l steps more, and the next one is step_counted
   unfoldable pub laps : ℕ → Iterate → Solve
   laps zero i = finish not_converged_iterations i
-  laps (suc l) i = cond s.limited (ask time decision (timed l (laps l) (counted i))) (timed l (laps l) (counted i) true)
+  laps (suc l) i = cond s.limited (ask time decision (timed l (laps l) (step_counted i))) (timed l (laps l) (step_counted i) true)
 
   -- ---- the start
 

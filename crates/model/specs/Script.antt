@@ -48,12 +48,12 @@ abbrev pub vector : List Float → Given
 vector v = record { reply = R.Reply.vector; vector = v }
 
 -- yes
-abbrev pub yea : Given
-yea = record { reply = R.Reply.yes; vector = [] }
+abbrev pub answer_yes : Given
+answer_yes = record { reply = R.Reply.yes; vector = [] }
 
 -- no
-abbrev pub nay : Given
-nay = record { reply = R.Reply.no; vector = [] }
+abbrev pub answer_no : Given
+answer_no = record { reply = R.Reply.no; vector = [] }
 
 -- a failure, by its code
 abbrev pub failure : ℕ → Given
@@ -127,13 +127,13 @@ Goes p t = play p (answers_in t) ≡ lines_in t
 -- ---- all that a run computes with: to unfold one of these is to unfold what its `unfolding` line names, so that a theorem on a run has to name it alone
 
 -- numbers, vectors, and the answers' side of the table
-unfoldable pub all_reckoning : Unit {0}
+unfoldable pub all_arithmetic : Unit {0}
 unfolding zip_with add sub mul div neg lt eq le is_nan round absolute larger root squares_from squares norm gamma_l_coeff epsilon_lipschitz delta_lipschitz min_l_estimate lipschitz_update_epsilon max_lipschitz_constant half one two four epsilon all_finite minus plus less_times plus_times plus_over products_from dot shift shifts shifted estimate R.wanted R.as_number R.as_vector R.as_decision R.may_fail R.given R.fits_kind R.fits_places R.fits_length R.answer_refusal R.go_on R.replied R.accept R.remains R.or_refused R.unless R.sizes_right lines call answers play answers_in lines_in
-all_reckoning = tt
+all_arithmetic = tt
 
 -- of an inner solve
 unfoldable pub all_inner : Unit {0}
-unfolding all_reckoning R.start_inner R.inner_refusal R.limit_right R.tolerance_right R.akkt_right no_best keep I.gamma_of I.sigma_of I.akkt_residual I.ceiling I.envelope I.descent I.candidate I.first_previous I.kept_gradient I.last_cost I.last_test I.finish I.onward I.first_project I.first_gradient I.first_cost I.first_move I.tried_project I.tried_gradient I.tried_cost I.trial I.retry I.search I.directed I.ask_direction I.renewed I.doubled_cost I.doubled_project I.doubled I.doubling I.half_cost I.akkt_passes I.passes I.tested I.entered I.step I.standing I.timed I.laps I.begun I.start_project I.opening I.start_shifted I.start_gradient I.start_cost I.solve
+unfolding all_arithmetic R.start_inner R.inner_refusal R.limit_right R.tolerance_right R.akkt_right no_best keep I.gamma_of I.sigma_of I.akkt_residual I.lipschitz_check_rhs I.envelope I.descent I.candidate I.first_previous I.kept_gradient I.last_cost I.last_test I.finish I.onward I.first_project I.first_gradient I.first_cost I.first_move I.tried_project I.tried_gradient I.tried_cost I.trial I.retry I.search I.directed I.ask_direction I.renewed I.doubled_cost I.doubled_project I.doubled I.doubling I.half_cost I.akkt_passes I.passes I.tested I.entered I.step I.standing I.timed I.laps I.begun I.start_project I.opening I.start_shifted I.start_gradient I.start_cost I.solve
 all_inner = tt
 
 -- of the loop
@@ -143,5 +143,5 @@ all_loop = tt
 
 -- of psi and d_psi
 unfoldable pub all_psi : Unit {0}
-unfolding all_reckoning R.start_psi R.start_d_psi R.psi_refusal R.xi_length R.mappings_right R.penalty_in R.multipliers_in P.penalized P.psi_f2 P.psi_ask_f2 P.psi_c P.psi_f1 P.psi_cost P.psi P.d_psi_jf2 P.d_psi_f2 P.d_psi_ask_f2 P.d_psi_jf1 P.d_psi_c P.d_psi_f1 P.d_psi_gradient P.d_psi
+unfolding all_arithmetic R.start_psi R.start_d_psi R.psi_refusal R.xi_length R.mappings_right R.penalty_in R.multipliers_in P.penalized P.psi_f2 P.psi_ask_f2 P.psi_c P.psi_f1 P.psi_cost P.psi P.d_psi_jf2 P.d_psi_f2 P.d_psi_ask_f2 P.d_psi_jf1 P.d_psi_c P.d_psi_f1 P.d_psi_gradient P.d_psi
 all_psi = tt

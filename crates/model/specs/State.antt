@@ -84,8 +84,8 @@ abbrev pub with_kept : List Float → Best → Iterate → Iterate
 with_kept p b i = record { u = i.u; gradient = i.gradient; gradient_step = i.gradient_step; half = i.half; previous = p; lipschitz = i.lipschitz; gamma = i.gamma; sigma = i.sigma; cost = i.cost; best = b; count = i.count }
 
 -- one step more is done
-abbrev pub counted : Iterate → Iterate
-counted i = record { u = i.u; gradient = i.gradient; gradient_step = i.gradient_step; half = i.half; previous = i.previous; lipschitz = i.lipschitz; gamma = i.gamma; sigma = i.sigma; cost = i.cost; best = i.best; count = i.count + 1 }
+abbrev pub step_counted : Iterate → Iterate
+step_counted i = record { u = i.u; gradient = i.gradient; gradient_step = i.gradient_step; half = i.half; previous = i.previous; lipschitz = i.lipschitz; gamma = i.gamma; sigma = i.sigma; cost = i.cost; best = i.best; count = i.count + 1 }
 
 -- a state with its iterate replaced
 abbrev pub onto : Iterate → State → State

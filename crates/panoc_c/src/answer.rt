@@ -7,7 +7,7 @@ use panoc_engine::refusals::refusal;
 use panoc_fields::answering::answer_accepted;
 use panoc_fields::calls::hand_out;
 use panoc_fields::fields::{InnerC, solve_of};
-use panoc_fields::numbers::{reply_at, strange_number};
+use panoc_fields::numbers::{number_of_no_kind, reply_at};
 
 // An answer to the question of a run, by its kind: 0 the number x, 1 the vector v, 2 yes, 3 no, 4 the failure code; a plan goes into the lent slice. 6 to 8 where it is refused:
 // then nothing is written; 9 for a failure.
@@ -25,7 +25,7 @@ pub extern "C" fn pozkerrin_inner_answer(
 {
     let wanted = wants(solve_of(&run.inner));
     let Some(a) = reply_at(kind, x, code) else {
-        return strange_number(wanted);
+        return number_of_no_kind(wanted);
     };
     let fits = plan.len() == run.inner.n;
     if let Some(refusal) = refusal(wanted, a, v.len(), fits) {

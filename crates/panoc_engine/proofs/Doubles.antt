@@ -16,7 +16,7 @@ use Rattle.panoc_engine.specs.declared.panoc_cache.Doubled.{Doubled}
 use Rattle.panoc_engine.specs.declared.panoc_cache.Moved.TheVariants.{To, Refused}
 use Rattle.panoc_engine.specs.declared.panoc_cache.Phase.TheVariants as P
 use Rattle.panoc_engine.specs.declared.outcome.Refusal.TheVariants as R
-use Rattle.panoc_engine.specs.Formulas.{ceiling_of}
+use Rattle.panoc_engine.specs.Formulas.{lipschitz_check_rhs_of}
 use Rattle.panoc_engine.specs.Runs.{run_of, Stands, leaves, doubled}
 use Rattle.panoc_engine.proofs.Held.{holds, in_u, in_gradient, in_half, wrote_half, step_left, residual_left}
 
@@ -26,7 +26,7 @@ module _ (s : Solve) (l : List Float) where
   unfolding run_of leaves Move.ask_direction
   direction_asked σ e = rw e refl
 
-  -- no round is left, or the cost does not exceed its ceiling
+  -- no round is left, or the cost does not exceed its lipschitz_check_rhs
   pub doubling_none : (k : ℕ) (x : Float) → k ≡ 0 → Move.doubling binary64 k x (run_of s l) ≡ Move.ask_direction binary64 (run_of s l)
   unfolding Move.doubling
   doubling_none k x e = rw e refl
@@ -88,10 +88,10 @@ module _ (s : Solve) (l : List Float) where
 
     pub doubled_goes : (l' : List Float) (x y z r : Float) → finite x ≡ true → l' ≡ write FPR (residual binary64 s.set.n l) l
         → y ≡ norm binary64 (residual binary64 s.set.n l) → z ≡ dot binary64 (vector GRADIENT s.set.n l) (residual binary64 s.set.n l)
-        → r ≡ ceiling_of binary64 s.cost_value s.gammas.gamma y z
+        → r ≡ lipschitz_check_rhs_of binary64 s.cost_value s.gammas.gamma y z
         → Move.doubled_cost binary64 x (run_of s l)
         ≡ Move.doubling binary64 s.counts.rounds x (run_of (record s { norms = record s.norms { norm_gamma_fpr = y; rhs_ls = r }; forget = true }) l')
-    unfolding run_of Move.doubled_cost I.renewed I.ceiling ceiling_of
+    unfolding run_of Move.doubled_cost I.renewed I.lipschitz_check_rhs lipschitz_check_rhs_of
     doubled_goes l' x y z r t e yv zv rv =
         let b = holds s.set.n l h.size h.places in
         let d = residual_left b binary64 e in

@@ -6,7 +6,7 @@ use Rattle.ieee.specs.Numbers.{absolute, larger}
 use Rattle.model.specs.Constants.{max_lipschitz_constant}
 use Rattle.model.specs.Inner as I
 use Rattle.model.proofs.Literals.{gamma_l_coeff_bits, min_l_estimate_bits, lipschitz_update_epsilon_bits, max_lipschitz_constant_bits, half_bits, one_bits, two_bits, four_bits}
-use Rattle.panoc_engine.specs.Formulas.{ceiling_of, envelope_of}
+use Rattle.panoc_engine.specs.Formulas.{lipschitz_check_rhs_of, envelope_of}
 
 pub gamma_is : (l m : Float) → m ≡ larger l (of_bits binary64 4457293557087583675) → div binary64 (of_bits binary64 4606732058837280358) m ≡ I.gamma_of binary64 l
 unfolding I.gamma_of
@@ -17,12 +17,12 @@ pub sigma_is : (g : Float)
 unfolding I.sigma_of
 sigma_is g = rw (one_bits, gamma_l_coeff_bits, four_bits)
 
-pub ceiling_is : (c g x z a : Float) → a ≡ absolute c
+pub lipschitz_check_rhs_is : (c g x z a : Float) → a ≡ absolute c
     → add binary64 (sub binary64 (add binary64 c (mul binary64 (of_bits binary64 4517329193108106637) a)) z)
     (mul binary64 (mul binary64 (div binary64 (of_bits binary64 4606732058837280358) (mul binary64 (of_bits binary64 4611686018427387904) g)) x) x)
-    ≡ ceiling_of binary64 c g x z
-unfolding ceiling_of
-ceiling_is c g x z a av = rw (av, lipschitz_update_epsilon_bits, gamma_l_coeff_bits, two_bits)
+    ≡ lipschitz_check_rhs_of binary64 c g x z
+unfolding lipschitz_check_rhs_of
+lipschitz_check_rhs_is c g x z a av = rw (av, lipschitz_update_epsilon_bits, gamma_l_coeff_bits, two_bits)
 
 pub exceeds_is : (x c l : Float) → lt x c ≡ true → lt l (of_bits binary64 4741671816366391296) ≡ (lt x c && lt l (max_lipschitz_constant binary64))
 exceeds_is x c l q = rw (q, max_lipschitz_constant_bits)

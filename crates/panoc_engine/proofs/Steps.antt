@@ -23,9 +23,9 @@ use Rattle.panoc_engine.specs.declared.panoc_cache.Next.TheVariants.{Again, Time
 use Rattle.panoc_engine.specs.declared.panoc_cache.Phase.TheVariants as P
 use Rattle.panoc_engine.specs.declared.outcome.Outcome.TheVariants as O
 use Rattle.panoc_engine.specs.declared.outcome.Refusal.TheVariants as R
-use Rattle.panoc_engine.specs.Formulas.{ceiling_of}
+use Rattle.panoc_engine.specs.Formulas.{lipschitz_check_rhs_of}
 use Rattle.panoc_engine.specs.Values.{settings_of, status_of}
-use Rattle.panoc_engine.specs.Runs.{run_of, leaves, ended, followed, Residual, Summed, norm_at, scored, next_phase}
+use Rattle.panoc_engine.specs.Runs.{run_of, leaves, ended, followed, ResidualLies, Summed, norm_at, scored, next_phase}
 use Rattle.panoc_engine.proofs.Held.{holds, in_u, in_gradient, in_previous, in_half, in_fpr, residual_left, previous_left, best_left}
 
 -- ---- the end that stands for a step
@@ -50,7 +50,7 @@ unfolding Move.step
 step_ends r t = rw t refl
 
 step_asks : (r : Run) → I.passes binary64 r.set (Move.entered binary64 r).state ≡ false
-    → asks Asked.cost Phase.half_cost (record (Move.entered binary64 r) { rhs = I.ceiling binary64 (Move.entered binary64 r).state }) ≡ Move.step binary64 r
+    → asks Asked.cost Phase.half_cost (record (Move.entered binary64 r) { rhs = I.lipschitz_check_rhs binary64 (Move.entered binary64 r).state }) ≡ Move.step binary64 r
 unfolding Move.step
 step_asks r t = rw t refl
 
@@ -87,17 +87,17 @@ module _ (r : Run) (next : Next) where
 
 -- the sums that come with it
 module _ (next : Next) (x z : Float) (n : ℕ) (l : List Float) where
-  pub summed_taken : Residual x z n l → Summed next x z n l
+  pub summed_taken : ResidualLies x z n l → Summed next x z n l
   summed_taken d = record { taken = λ k. d }
 
   pub summed_again : next ≡ Again → Summed next x z n l
   summed_again e = record { taken = λ k. absurd (k e) }
 
-  pub summed_step : next ≡ Step → Summed next x z n l → Residual x z n l
+  pub summed_step : next ≡ Step → Summed next x z n l → ResidualLies x z n l
   summed_step e d = d.taken (λ k. let z : ◌≡◌ {A = Next} Step Again = sym e ∙ k in cc)
 
   pub summed_finish : next ≡ Finish → Summed next x z n l → x ≡ norm_at n l
-  summed_finish e d = let a : Residual x z n l = d.taken (λ k. let z : ◌≡◌ {A = Next} Finish Again = sym e ∙ k in cc) in a.size
+  summed_finish e d = let a : ResidualLies x z n l = d.taken (λ k. let z : ◌≡◌ {A = Next} Finish Again = sym e ∙ k in cc) in a.size
 
 -- the residual, worked out anew, with its sums
 pub residual_summed : (next : Next) (x z : Float) (n : ℕ) (l l' : List Float) → l' ≡ write FPR (residual binary64 n l) l
@@ -215,21 +215,21 @@ module _ (s : Solve) (l : List Float) where
       unfolding run_of scored
       step_over t = ap (Move.finish binary64) entered_is ∙ step_ends (run_of s l) (ap (λ (r : Run). I.passes binary64 (settings_of s.set) r.state) (sym entered_is) ∙ t)
 
-      ceiling_is : (z r : Float) → z ≡ dot binary64 (vector GRADIENT s.set.n l) (residual binary64 s.set.n l) → r ≡ ceiling_of binary64 s.cost_value s.gammas.gamma x z → r ≡ I.ceiling binary64 (Move.entered binary64 (run_of s l)).state
-      unfolding run_of I.ceiling I.entered ceiling_of
-      ceiling_is z r zv rv =
+      lipschitz_check_rhs_is : (z r : Float) → z ≡ dot binary64 (vector GRADIENT s.set.n l) (residual binary64 s.set.n l) → r ≡ lipschitz_check_rhs_of binary64 s.cost_value s.gammas.gamma x z → r ≡ I.lipschitz_check_rhs binary64 (Move.entered binary64 (run_of s l)).state
+      unfolding run_of I.lipschitz_check_rhs I.entered lipschitz_check_rhs_of
+      lipschitz_check_rhs_is z r zv rv =
           let b = holds s.set.n l m p in
           let xw = rw (in_u b, in_half b) at size in
           let zw = rw (in_gradient b, in_u b, in_half b) at zv in
           rv ∙ rw (xw, zw) refl
 
       pub step_goes : (z r : Float) → I.passes binary64 (settings_of s.set) (run_of (record s { norms = record s.norms { norm_gamma_fpr = x; best_norm_gamma_fpr = y } }) l₂).state ≡ false
-          → z ≡ dot binary64 (vector GRADIENT s.set.n l) (residual binary64 s.set.n l) → r ≡ ceiling_of binary64 s.cost_value s.gammas.gamma x z
+          → z ≡ dot binary64 (vector GRADIENT s.set.n l) (residual binary64 s.set.n l) → r ≡ lipschitz_check_rhs_of binary64 s.cost_value s.gammas.gamma x z
           → scored Step false (run_of (record s { norms = record s.norms { norm_gamma_fpr = x; best_norm_gamma_fpr = y; rhs_ls = r } }) l₂) ≡ Move.step binary64 (run_of s l)
       unfolding run_of scored leaves
       step_goes z r t zv rv =
           ap (λ (q : Run). asks Asked.cost Phase.half_cost (record q { rhs = r })) entered_is
-          ∙ ap (λ (c : Float). asks Asked.cost Phase.half_cost (record (Move.entered binary64 (run_of s l)) { rhs = c })) (ceiling_is z r zv rv)
+          ∙ ap (λ (c : Float). asks Asked.cost Phase.half_cost (record (Move.entered binary64 (run_of s l)) { rhs = c })) (lipschitz_check_rhs_is z r zv rv)
           ∙ step_asks (run_of s l) (ap (λ (q : Run). I.passes binary64 (settings_of s.set) q.state) (sym entered_is) ∙ t)
 
     -- ---- the end of a solve

@@ -139,14 +139,14 @@ abbrev pub norm_at : ℕ → List Float → Float
 norm_at n l = norm binary64 (residual binary64 n l)
 
 -- that residual lies in its place, x is its norm and z its product with the gradient
-pub record Residual (x z : Float) (n : ℕ) (l : List Float) : Type 0 where
+pub record ResidualLies (x z : Float) (n : ℕ) (l : List Float) : Type 0 where
   pub left : vector FPR n l ≡ residual binary64 n l
   pub size : x ≡ norm_at n l
   pub product : z ≡ dot binary64 (vector GRADIENT n l) (residual binary64 n l)
 
 -- so it is where a half step is taken
 pub record Summed (next : Next) (x z : Float) (n : ℕ) (l : List Float) : Type 0 where
-  pub taken : (next ≡ Again → ⊥) → Residual x z n l
+  pub taken : (next ≡ Again → ⊥) → ResidualLies x z n l
 
 -- y is the square of the norm of the candidate's residual, and z its product with the gradient
 pub record Candidate (y z : Float) (n : ℕ) (l : List Float) : Type 0 where

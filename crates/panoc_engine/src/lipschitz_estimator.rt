@@ -4,7 +4,7 @@ ghost use Rattle.std.specs.Float.{binary64};
 ghost use Rattle.std.specs.Float.Ieee.{lt};
 ghost use Rattle.model.specs.Constants.{max_lipschitz_constant};
 ghost use Rattle.model.specs.Inner.{gamma_of, sigma_of};
-ghost use Rattle.panoc_engine.specs.Formulas.{ceiling_of, envelope_of};
+ghost use Rattle.panoc_engine.specs.Formulas.{lipschitz_check_rhs_of, envelope_of};
 
 // γ = 0.95 / max(L, 1e-10)
 #[tactic(auto, using(crate::proofs::Formulas::gamma_is))]
@@ -23,19 +23,19 @@ pub fn sigma_of(gamma: f64) -> f64
 }
 
 // cost + 1e-6 × |cost| - (gradient · residual) + (0.95 / (2 × γ)) × norm × norm
-#[tactic(auto, using(crate::proofs::Formulas::ceiling_is))]
+#[tactic(auto, using(crate::proofs::Formulas::lipschitz_check_rhs_is))]
 pub fn lipschitz_check_rhs(cost: f64, gamma: f64, norm: f64, product: f64) -> f64
-    ensures { result ≡ ceiling_of binary64 cost gamma norm product }
+    ensures { result ≡ lipschitz_check_rhs_of binary64 cost gamma norm product }
 {
     cost + 1e-6 * numeric::abs(cost) - product + (0.95 / (2.0 * gamma)) * norm * norm
 }
 
-// Whether L is to be doubled: the half step's cost exceeds its ceiling, and L is below 1e9.
+// Whether L is to be doubled: the half step's cost exceeds its lipschitz_check_rhs, and L is below 1e9.
 #[tactic(auto, using(crate::proofs::Formulas::exceeds_is))]
-pub fn exceeds(ceiling: f64, lipschitz: f64, cost: f64) -> bool
-    ensures { result ≡ (lt ceiling cost && lt lipschitz (max_lipschitz_constant binary64)) }
+pub fn exceeds(lipschitz_check_rhs: f64, lipschitz: f64, cost: f64) -> bool
+    ensures { result ≡ (lt lipschitz_check_rhs cost && lt lipschitz (max_lipschitz_constant binary64)) }
 {
-    ceiling < cost && lipschitz < 1e9
+    lipschitz_check_rhs < cost && lipschitz < 1e9
 }
 
 // cost - 0.5 × γ × |gradient|² + 0.5 × d² / γ, d the distance from gradient step to half step

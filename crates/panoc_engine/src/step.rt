@@ -5,7 +5,7 @@ ghost use Rattle.model.specs.State as S;
 ghost use Rattle.model.specs.Inner as I;
 ghost use Rattle.machine.specs.InnerMoves.{finish, step, onward, timed};
 ghost use Rattle.panoc_engine.specs.Values.{settings_of, status_of};
-ghost use Rattle.panoc_engine.specs.Runs.{run_of, Fits, Stands, Residual, Summed, norm_at, followed, going, halved, tested, scoring, next_phase};
+ghost use Rattle.panoc_engine.specs.Runs.{run_of, Fits, Stands, ResidualLies, Summed, norm_at, followed, going, halved, tested, scoring, next_phase};
 
 use crate::lipschitz_estimator::lipschitz_check_rhs;
 use crate::outcome::Refusal;
@@ -89,7 +89,7 @@ fn exit_condition(s: Solve, board: &[f64]) -> bool
 // A step, from the residual with its sums: the previous gradient, the score, and the tests. What the cost at the half step is held to is kept.
 #[tactic(auto, using(crate::proofs::Steps::step_over, crate::proofs::Steps::step_goes))]
 fn step(norm: f64, product: f64, s: Solve, board: &mut [f64]) -> Scored
-    requires { (Fits s board.old) × (Residual norm product s.set.n board.old) }
+    requires { (Fits s board.old) × (ResidualLies norm product s.set.n board.old) }
     ensures goes { scoring s Next.Step result board.new ≡ step binary64 (run_of s board.old) }
     ensures sized { norm ≡ norm_at s.set.n board.new }
 {

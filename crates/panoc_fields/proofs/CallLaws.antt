@@ -7,7 +7,7 @@ use Rattle.model.specs.State as S
 use Rattle.model.specs.Refusals.{Reply, answer_refusal, fits_kind, fits_length, fits_places, given, as_number, as_vector, as_decision, may_fail}
 use Rattle.board.specs.Board.{vector, board_of, BEST}
 use Rattle.machine.specs.Told as Say
-use Rattle.machine.specs.Waits.{unless_refused, strange, any_refusal}
+use Rattle.machine.specs.Waits.{unless_refused, of_no_kind, any_refusal}
 use Rattle.machine.specs.Numbers.{outcome_number}
 use Rattle.machine.specs.InnerRun as M
 use Rattle.machine.specs.InnerAnswer.{wanted_by, refused_by, turns, plan_after, answered, answer, answer_any}
@@ -22,8 +22,8 @@ use Rattle.panoc_fields.specs.declared.fields.InnerC.{InnerC}
 use Rattle.panoc_fields.specs.Fields.{Seen, solve_at, run_at, seen, exact, handed, refusal_at, answer_at, Leaves}
 
 -- an answer of no kind has a number too
-pub strange_some : (w : Option Kind) → strange w ≡ 0 → ⊥
-unfolding strange
+pub strange_some : (w : Option Kind) → of_no_kind w ≡ 0 → ⊥
+unfolding of_no_kind
 strange_some none e = omega arith
 strange_some (some k) e = omega arith
 
@@ -52,11 +52,11 @@ module _ (was : InnerC) (v us : List Float) (s : Solve) (i : s ≡ solve_at was.
   e = d was.board ∙ ap (λ (o : Solve). wanted_by (run_of o was.board)) i
 
   -- a refused answer
-  pub leaves_strange : (o : Option Reply) (number : ℕ) → none ≡ o → number ≡ strange w → Leaves o v us us was was number
+  pub leaves_strange : (o : Option Reply) (number : ℕ) → none ≡ o → number ≡ of_no_kind w → Leaves o v us us was was number
   unfolding any_refusal
   leaves_strange o number q z =
       subst (λ (o : Option Reply). Leaves o v us us was was number) q
-      (record { refused = λ k t. (z ∙ ap strange e ∙ t, refl, refl); accepted = λ t. absurd (strange_some _ t) })
+      (record { refused = λ k t. (z ∙ ap of_no_kind e ∙ t, refl, refl); accepted = λ t. absurd (strange_some _ t) })
 
   module _ (a : Reply) (o : Option Reply) (q : some a ≡ o) where
     pub leaves_refused : (k : Refusal) → refusal_number k ≡ answer_refusal w a (length v) (eqb (length us) was.inner.n) → Leaves o v us us was was (refusal_number k)

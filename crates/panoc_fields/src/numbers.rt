@@ -1,6 +1,6 @@
 // The numbers that C sees and gives.
 ghost use Rattle.std.specs.Prelude.{◌≡◌};
-ghost use Rattle.machine.specs.Waits.{strange};
+ghost use Rattle.machine.specs.Waits.{of_no_kind};
 ghost use Rattle.machine.specs.Numbers.{reply_of, question_number, phase_number, status_number, flag_number, flag_of};
 ghost use Rattle.panoc_engine.specs.Told.{number_in};
 ghost use Rattle.panoc_engine.specs.Values.{kind_of, asked_of, phase_of, status_of};
@@ -152,9 +152,9 @@ pub fn reply_at(kind: u32, x: f64, code: u32) -> Option<Reply>
 }
 
 // An answer of no kind gets 6 where the run has ended, else 7.
-#[tactic(auto, unfolding(machine::specs::Waits::strange))]
-pub fn strange_number(wanted: Option<Wanted>) -> u32
-    ensures { result ≡ strange (kind_of wanted) }
+#[tactic(auto, unfolding(machine::specs::Waits::of_no_kind))]
+pub fn number_of_no_kind(wanted: Option<Wanted>) -> u32
+    ensures { result ≡ of_no_kind (kind_of wanted) }
 {
     match wanted {
         None => 6,

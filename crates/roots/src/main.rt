@@ -1,10 +1,10 @@
 // Reads patterns of `f64`, 16 hexadecimal digits to a line, and writes each with the pattern of its root.
 #![tactic(auto)]
 
-use words::float_printing::to_bits;
-use words::float_words::{of_bits, read_pattern};
 use std::io;
 use std::io::{BufRead, BufReader};
+use words::float_printing::to_bits;
+use words::float_words::{of_bits, read_pattern};
 
 // A line that is no pattern ends the input.
 fn main(rt: HostRuntime) -> io::Result<()> {

@@ -4,7 +4,7 @@ use Rattle.panoc_c.proofs.answer.pozkerrin_inner_answer.Goals as goal
 
 pub returns-in_default : goal.returns-in_default
 returns-in_default c =
-    leaves_strange c.args.run.now c.args.v.now c.args.plan.now _ c.solve_of.ensures _ c.wants-wanted.ensures _ _ c.in_default.ensures c.strange_number.ensures
+    leaves_strange c.args.run.now c.args.v.now c.args.plan.now _ c.solve_of.ensures _ c.wants-wanted.ensures _ _ c.in_default.ensures c.number_of_no_kind.ensures
 
 pub answer_accepted-number-requires-clause-accepted : goal.answer_accepted-number-requires-clause-accepted
 answer_accepted-number-requires-clause-accepted c =
