@@ -7,13 +7,14 @@ use Rattle.ieee.specs.Numbers.{null}
 use Rattle.model.specs.Process.{LoopQuestion}
 use Rattle.model.specs.Loop.{xi_of}
 use Rattle.model.specs.Refusals.{xi_length}
-use Rattle.board.specs.Board.{vector, U, PLUS, STEP, HALF, FPR, BEST, Y, Y_PLUS}
+use Rattle.board.specs.Board.{vector, U, BEST, Y, Y_PLUS}
 use Rattle.machine.specs.Shown.{Shown}
 use Rattle.machine.specs.LoopCalls.{first_point, second_point}
 use Rattle.panoc_engine.specs.declared.panoc_cache.Phase.{Phase}
 use Rattle.panoc_engine.specs.declared.panoc_cache.Phase.TheVariants as P
 use Rattle.panoc_engine.specs.declared.outcome.Refusal.{Refusal}
 use Rattle.panoc_engine.specs.Told.{number_in}
+use Rattle.panoc_engine.specs.Places.{place_of, first_places}
 use Rattle.alm_engine.specs.declared.alm_cache.AlmSettings.{AlmSettings}
 use Rattle.alm_engine.specs.declared.alm_cache.AlmPhase.{AlmPhase}
 use Rattle.alm_engine.specs.declared.alm_cache.AlmPhase.TheVariants as A
@@ -27,24 +28,28 @@ abbrev pub point : ℕ → ℕ → Second → Std.Option Located
 point j n second = Std.Some (record { from = j; places = n; second = second })
 
 -- of a question of the inner solve, c being the penalty: COST and GRADIENT have xi, DIRECTION has u
+abbrev pub carried_at : Float → Phase → Second
+carried_at c P.Over = Nothing
+carried_at c P.Cost = Xi c
+carried_at c P.Gradient = Xi c
+carried_at c P.Shifted = Xi c
+carried_at c P.Project = Nothing
+carried_at c P.HalfCost = Xi c
+carried_at c P.DoubledProject = Nothing
+carried_at c P.DoubledCost = Xi c
+carried_at c P.Direction = Iterate
+carried_at c P.FirstCost = Xi c
+carried_at c P.FirstGradient = Xi c
+carried_at c P.FirstProject = Nothing
+carried_at c P.TriedCost = Xi c
+carried_at c P.TriedGradient = Xi c
+carried_at c P.TriedProject = Nothing
+carried_at c P.Time = Nothing
+carried_at c P.LastCost = Xi c
+
 abbrev pub inner_points : ℕ → Float → Phase → Std.Option Located
 inner_points n c P.Over = Std.None
-inner_points n c P.Cost = point U n (Xi c)
-inner_points n c P.Gradient = point U n (Xi c)
-inner_points n c P.Shifted = point U n (Xi c)
-inner_points n c P.Project = point STEP n Nothing
-inner_points n c P.HalfCost = point HALF n (Xi c)
-inner_points n c P.DoubledProject = point STEP n Nothing
-inner_points n c P.DoubledCost = point HALF n (Xi c)
-inner_points n c P.Direction = point FPR n Iterate
-inner_points n c P.FirstCost = point U n (Xi c)
-inner_points n c P.FirstGradient = point U n (Xi c)
-inner_points n c P.FirstProject = point STEP n Nothing
-inner_points n c P.TriedCost = point PLUS n (Xi c)
-inner_points n c P.TriedGradient = point PLUS n (Xi c)
-inner_points n c P.TriedProject = point STEP n Nothing
-inner_points n c P.Time = point U 0 Nothing
-inner_points n c P.LastCost = point BEST n (Xi c)
+inner_points n c p = point (place_of p) (first_places n p) (carried_at c p)
 
 -- of one of the loop's own: the last COST has a xi whose penalty is 0
 abbrev pub own_points : AlmSettings → AlmPhase → Std.Option Located

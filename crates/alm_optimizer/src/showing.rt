@@ -2,16 +2,17 @@
 ghost use Rattle.std.specs.Prelude.{◌≡◌, ◌≤◌, List, [], Float, length, eqb};
 ghost use Rattle.machine.specs.LoopAnswer.{points, second_alone, question_of};
 ghost use Rattle.alm_engine.specs.LoopRuns.{loop_run};
-ghost use Rattle.alm_optimizer.specs.Points.{point, inner_points, own_points, second_filled, second_places, pair_of, lying, roomy, shows};
+ghost use Rattle.alm_optimizer.specs.Points.{point, carried_at, inner_points, own_points, second_filled, second_places, pair_of, lying, roomy, shows};
 
 use crate::answering::fill_xi;
 use crate::waiting::is_sound;
 use alm_engine::alm_cache::{Alm, AlmPhase, AlmRun, AlmSettings};
 use board::copies::give;
-use board::{BEST, FPR, HALF, PLUS, STEP, U, Y, Y_PLUS};
+use board::{BEST, U, Y, Y_PLUS};
 use panoc_engine::answers::in_range;
 use panoc_engine::outcome::Refusal;
 use panoc_engine::panoc_cache::Phase;
+use panoc_engine::points::{first_places, place_of};
 use starts::sizes::xi_fits;
 
 // The second point of a question: none, u, or xi with this penalty.
@@ -40,24 +41,43 @@ fn point(from: usize, places: usize, second: Second) -> Option<Located>
     })
 }
 
-// Of a question of the inner solve: COST and GRADIENT have xi, DIRECTION has u.
+// The second point of a question of the inner solve: COST and GRADIENT have xi, DIRECTION has u.
+fn carried_at(penalty: f64, phase: Phase) -> Second
+    ensures { result ≡ carried_at penalty phase }
+{
+    match phase {
+        Phase::Direction => Second::Iterate,
+        Phase::Over
+        | Phase::Project
+        | Phase::DoubledProject
+        | Phase::FirstProject
+        | Phase::TriedProject
+        | Phase::Time => Second::Nothing,
+        Phase::Cost
+        | Phase::Gradient
+        | Phase::Shifted
+        | Phase::HalfCost
+        | Phase::DoubledCost
+        | Phase::FirstCost
+        | Phase::FirstGradient
+        | Phase::TriedCost
+        | Phase::TriedGradient
+        | Phase::LastCost => Second::Xi(penalty),
+    }
+}
+
+// Its points.
 fn inner_points(n: usize, penalty: f64, phase: Phase) -> Option<Located>
     ensures { result ≡ inner_points n penalty phase }
 {
-    let xi = Second::Xi(penalty);
-    match phase {
-        Phase::Over => None,
-        Phase::Time => point(U, 0, Second::Nothing),
-        Phase::Direction => point(FPR, n, Second::Iterate),
-        Phase::Project | Phase::DoubledProject | Phase::FirstProject | Phase::TriedProject => {
-            point(STEP, n, Second::Nothing)
-        }
-        Phase::HalfCost | Phase::DoubledCost => point(HALF, n, xi),
-        Phase::TriedCost | Phase::TriedGradient => point(PLUS, n, xi),
-        Phase::LastCost => point(BEST, n, xi),
-        Phase::Cost | Phase::Gradient | Phase::Shifted | Phase::FirstCost | Phase::FirstGradient =>
-            point(U, n, xi),
+    if let Phase::Over = phase {
+        return None;
     }
+    point(
+        place_of(phase),
+        first_places(n, phase),
+        carried_at(penalty, phase),
+    )
 }
 
 // Of one of the loop's own: the last COST has a xi whose penalty is 0.
