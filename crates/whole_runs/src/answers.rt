@@ -4,7 +4,7 @@ ghost use Rattle.std.specs.Prelude.{◌≡◌, take, drop};
 use panoc_engine::panoc_cache::Reply;
 
 // An answer, and how many of the next floats are the vector lent with it.
-#[derive(Clone, Copy, Debug, PartialEq)]
+#[derive(Clone, Copy)]
 pub struct Answer {
     pub reply: Reply,
     pub length: usize,
