@@ -3,7 +3,7 @@ use Rattle.std.specs.Prelude.{List, [], ◌∷◌}
 use Rattle.machine.specs.Keeping.{Input, Machine, Keeping, Seen}
 use Rattle.claim.specs.History.{Runs, Call}
 
--- Whose are a machine's run, lent places and outcome in the contract of a kind of run: they are the same, for each of the four.
+-- What a machine's run, lent places and outcome are in a kind of run: the same, for each of the four.
 pub record Same {Q H : Type 0} (k : Runs Q H) (m : Machine) : Type 0 where
   pub run : m.Run → k.Run
   pub lent : m.Lent → k.Lent
