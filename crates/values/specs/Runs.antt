@@ -18,7 +18,8 @@ use Rattle.panoc_engine.specs.declared.panoc_cache.SolverStatus.{SolverStatus}
 use Rattle.panoc_engine.specs.declared.panoc_cache.Run.{Run}
 use Rattle.panoc_engine.specs.Values.{settings_of}
 use Rattle.panoc_engine.specs.Runs.{run_of}
-use Rattle.panoc_optimizer.specs.Calls.{gave, blank, no_places}
+use Rattle.panoc_engine.specs.Blank.{blank}
+use Rattle.panoc_optimizer.specs.Calls.{gave, no_places}
 use Rattle.alm_engine.specs.declared.alm_cache.AlmQuestion.{AlmQuestion}
 use Rattle.alm_engine.specs.declared.alm_cache.AlmOptimizerStatus.{AlmOptimizerStatus}
 use Rattle.alm_engine.specs.declared.alm_cache.AlmRun.{AlmRun}
