@@ -1,21 +1,19 @@
 -- What a call is printed as, byte by byte: TRANSCRIPT.md, "What is printed". Each is a function of what the machine says that the call leaves. Definitions only.
-use Rattle.std.specs.Prelude.{ℕ, zero, suc, true, false, List, [], ◌∷◌, ◌++◌, Float, codes, min, replicate}
+use Rattle.std.specs.Prelude.{ℕ, zero, suc, true, false, List, [], ◌∷◌, ◌++◌, Float, codes}
+use Rattle.std.proofs.Math.Option.{Option, none, some}
 use Rattle.std.specs.Float.{binary64}
-use Rattle.ieee.specs.Numbers.{null}
 use Rattle.model.specs.Process.{Status, converged, not_converged_iterations, not_converged_out_of_time, Process, PsiQuestion}
-use Rattle.model.specs.Loop.{LoopSettings}
-use Rattle.model.specs.Psi.{Sizes}
-use Rattle.model.specs.Refusals.{xi_length}
 use Rattle.words.specs.Printing.{counted_text, floats_text, point_text}
 use Rattle.machine.specs.Told.{Told}
-use Rattle.machine.specs.Shown.{Shown, shown}
 use Rattle.machine.specs.InnerRun as Inner
 use Rattle.machine.specs.InnerAnswer as InnerAnswer
+use Rattle.machine.specs.InnerCalls as InnerCalls
 use Rattle.machine.specs.InnerCalls.{asking}
 use Rattle.machine.specs.LoopRun as Loop
 use Rattle.machine.specs.LoopAnswer as LoopAnswer
+use Rattle.machine.specs.LoopCalls as LoopCalls
 use Rattle.machine.specs.PsiRun as Psi
-use Rattle.machine.specs.PsiCalls.{first_point, second_point}
+use Rattle.machine.specs.PsiCalls as PsiCalls
 use Rattle.machine.specs.PsiRest.{psi_rest, d_psi_rest}
 
 -- ---- what all kinds of runs print alike
@@ -41,12 +39,10 @@ unfoldable pub shown_text : List ℕ → List ℕ → ℕ → List Float → Lis
 shown_text w t zero p q = point_text w p ++ point_text t q
 shown_text w t (suc k) p q = refused_text (suc k)
 
--- the points as the machine has them, which are asked for with so many places
-abbrev pub lent : ℕ → List Float
-lent n = replicate (min n 64) null
-
-abbrev pub asked_text : List ℕ → List ℕ → Shown → List ℕ
-asked_text w t s = shown_text w t s.number s.first s.second
+-- a question that stands with its points, first and second; a run that has none is refused by 6
+unfoldable pub question_text : {Q : Type 0} → List ℕ → List ℕ → (Q → List Float) → (Q → List Float) → Option Q → List ℕ
+question_text w t first second none = refused_text 6
+question_text w t first second (some q) = point_text w (first q) ++ point_text t (second q)
 
 -- what a call tells: asked and ended are the lines of a question and of an end
 unfoldable pub told_text : {Q E : Type 0} → (Q → List ℕ) → (E → List ℕ) → Told Q E → List ℕ
@@ -73,24 +69,9 @@ inner_then Inner.Asked.project = []
 inner_then (Inner.Asked.direction forget) = codes " u"
 inner_then Inner.Asked.time = []
 
--- how many places its points have, where u has n
-abbrev pub inner_first : Inner.Asked → ℕ → ℕ
-inner_first Inner.Asked.cost n = n
-inner_first Inner.Asked.gradient n = n
-inner_first Inner.Asked.project n = n
-inner_first (Inner.Asked.direction forget) n = n
-inner_first Inner.Asked.time n = 0
-
-abbrev pub inner_second : Inner.Asked → ℕ → ℕ
-inner_second Inner.Asked.cost n = 0
-inner_second Inner.Asked.gradient n = 0
-inner_second Inner.Asked.project n = 0
-inner_second (Inner.Asked.direction forget) n = n
-inner_second Inner.Asked.time n = 0
-
--- a question, with the points that stand in the run
+-- a question, with the points of the one that stands in the run
 unfoldable pub inner_asked : Inner.Run → Inner.Asked → List ℕ
-inner_asked r q = asked_text (inner_name q) (inner_then q) (InnerAnswer.points r (lent (inner_first q r.set.n)) (lent (inner_second q r.set.n)))
+inner_asked r q = question_text (inner_name q) (inner_then q) InnerCalls.first_point InnerCalls.second_point (InnerAnswer.question_of r)
 
 -- ended END ITERATIONS NORM COST
 unfoldable pub inner_ended : Inner.Numbers → List ℕ
@@ -128,33 +109,8 @@ loop_then Loop.Asked.project_c = []
 loop_then Loop.Asked.f2 = []
 loop_then Loop.Asked.cost = codes " xi"
 
-abbrev pub loop_first : LoopSettings → Loop.Asked → ℕ
-loop_first s (Loop.Asked.inner q) = inner_first q s.n
-loop_first s Loop.Asked.time = 0
-loop_first s Loop.Asked.project_y = s.n1
-loop_first s Loop.Asked.f1 = s.n
-loop_first s Loop.Asked.project_c = s.n1
-loop_first s Loop.Asked.f2 = s.n
-loop_first s Loop.Asked.cost = s.n
-
-abbrev pub carried_second : LoopSettings → Inner.Asked → ℕ
-carried_second s Inner.Asked.cost = xi_length s.n1 s.n2
-carried_second s Inner.Asked.gradient = xi_length s.n1 s.n2
-carried_second s Inner.Asked.project = 0
-carried_second s (Inner.Asked.direction forget) = s.n
-carried_second s Inner.Asked.time = 0
-
-abbrev pub loop_second : LoopSettings → Loop.Asked → ℕ
-loop_second s (Loop.Asked.inner q) = carried_second s q
-loop_second s Loop.Asked.time = 0
-loop_second s Loop.Asked.project_y = 0
-loop_second s Loop.Asked.f1 = 0
-loop_second s Loop.Asked.project_c = 0
-loop_second s Loop.Asked.f2 = 0
-loop_second s Loop.Asked.cost = xi_length s.n1 s.n2
-
 unfoldable pub loop_asked : Loop.Run → Loop.Asked → List ℕ
-loop_asked r q = asked_text (loop_name q) (loop_then q) (LoopAnswer.points r (lent (loop_first r.set q)) (lent (loop_second r.set q)))
+loop_asked r q = question_text (loop_name q) (loop_then q) LoopCalls.first_point LoopCalls.second_point (LoopAnswer.question_of r)
 
 -- ended END OUTER INNER NORM COST C DELTA_Y F2
 unfoldable pub loop_ended : Loop.Numbers → List ℕ
@@ -184,27 +140,9 @@ penalty_then Psi.Asked.jf1t = codes " d"
 penalty_then Psi.Asked.f2 = []
 penalty_then Psi.Asked.jf2t = codes " d"
 
-abbrev pub penalty_first : Sizes → Psi.Asked → ℕ
-penalty_first s Psi.Asked.cost = s.n
-penalty_first s Psi.Asked.gradient = s.n
-penalty_first s Psi.Asked.f1 = s.n
-penalty_first s Psi.Asked.project_c = s.n1
-penalty_first s Psi.Asked.jf1t = s.n
-penalty_first s Psi.Asked.f2 = s.n
-penalty_first s Psi.Asked.jf2t = s.n
-
-abbrev pub penalty_second : Sizes → Psi.Asked → ℕ
-penalty_second s Psi.Asked.cost = 0
-penalty_second s Psi.Asked.gradient = 0
-penalty_second s Psi.Asked.f1 = 0
-penalty_second s Psi.Asked.project_c = 0
-penalty_second s Psi.Asked.jf1t = s.n1
-penalty_second s Psi.Asked.f2 = 0
-penalty_second s Psi.Asked.jf2t = s.n2
-
--- a question, with the points that the process p is asked with
-unfoldable pub penalty_asked : {H : Type 0} → Sizes → Process PsiQuestion H → Psi.Asked → List ℕ
-penalty_asked s p q = asked_text (penalty_name q) (penalty_then q) (shown first_point second_point (asking p) (lent (penalty_first s q)) (lent (penalty_second s q)))
+-- a question, with the points of the one that the process p asks
+unfoldable pub penalty_asked : {H : Type 0} → Process PsiQuestion H → Psi.Asked → List ℕ
+penalty_asked p q = question_text (penalty_name q) (penalty_then q) PsiCalls.first_point PsiCalls.second_point (asking p)
 
 -- the end of psi has its number, that of d_psi nothing
 abbrev pub psi_ended : Float → List ℕ
@@ -214,7 +152,7 @@ abbrev pub d_psi_ended : Unit {0} → List ℕ
 d_psi_ended e = codes "ended"
 
 unfoldable pub psi_line : Psi.PsiLeft → List ℕ
-psi_line l = told_text (penalty_asked l.run.sizes (psi_rest binary64 l.run)) psi_ended l.told
+psi_line l = told_text (penalty_asked (psi_rest binary64 l.run)) psi_ended l.told
 
 unfoldable pub d_psi_line : Psi.DPsiLeft → List ℕ
-d_psi_line l = told_text (penalty_asked l.run.sizes (d_psi_rest binary64 l.run)) d_psi_ended l.told
+d_psi_line l = told_text (penalty_asked (d_psi_rest binary64 l.run)) d_psi_ended l.told

@@ -2,12 +2,12 @@
 ghost use Rattle.std.specs.Prelude.{◌≡◌};
 ghost use Rattle.panoc_engine.specs.Values.{asked_of, numbers_of};
 ghost use Rattle.panoc_engine.specs.Runs.{run_of};
-ghost use Rattle.panoc_optimizer.specs.Calls.{gave};
-ghost use Rattle.transcript.specs.Texts.{inner_first, inner_second, inner_asked, inner_ended, inner_line};
+ghost use Rattle.panoc_optimizer.specs.Calls.{gave, first_places, second_places};
+ghost use Rattle.transcript.specs.Texts.{inner_asked, inner_ended, inner_line};
 
 use crate::names::{name, then};
 use crate::output::{Line, ended, failed, places, refused, shown};
-use panoc_engine::panoc_cache::{Answered, Outcome, Question, Run, SolverStatus};
+use panoc_engine::panoc_cache::{Answered, Outcome, Phase, Question, Run, SolverStatus};
 use panoc_optimizer::points;
 use words::line_printing::put_floats;
 
@@ -24,22 +24,22 @@ pub fn told(r: &Answered) -> Line
     }
 }
 
-// How many places the first point of a question has: TIME has none.
-pub fn first_places(question: Question, n: usize) -> usize
-    ensures { result ≡ inner_first (asked_of question) n }
+// How many places the first point of the question of a phase has: TIME has none.
+pub fn first_places(n: usize, phase: Phase) -> usize
+    ensures { result ≡ first_places n phase }
 {
-    match question {
-        Question::Time => 0,
+    match phase {
+        Phase::Time => 0,
         _ => n,
     }
 }
 
 // How many the second has: DIRECTION alone has one.
-pub fn second_places(question: Question, n: usize) -> usize
-    ensures { result ≡ inner_second (asked_of question) n }
+fn second_places(n: usize, phase: Phase) -> usize
+    ensures { result ≡ second_places n phase }
 {
-    match question {
-        Question::Direction(_) => n,
+    match phase {
+        Phase::Direction => n,
         _ => 0,
     }
 }
@@ -48,9 +48,9 @@ pub fn second_places(question: Question, n: usize) -> usize
 fn put_asked(question: Question, run: Run) -> Line
     ensures { result.items ≡ inner_asked (run_of run.solve run.board) (asked_of question) }
 {
-    let size = run.solve.set.n;
-    let n = first_places(question, size).min(64);
-    let m = second_places(question, size).min(64);
+    let s = run.solve;
+    let n = first_places(s.set.n, s.phase).min(64);
+    let m = second_places(s.set.n, s.phase).min(64);
     let mut p = places();
     let mut q = places();
     let first = &mut p[..n];

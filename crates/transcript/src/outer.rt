@@ -1,18 +1,19 @@
 // What is printed of a call of the loop.
 ghost use Rattle.std.specs.Prelude.{◌≡◌, ◌≤◌, length, min};
 ghost use Rattle.model.specs.Refusals.{xi_length};
-ghost use Rattle.alm_engine.specs.Values.{loop_settings_of, loop_asked_of, loop_numbers_of};
+ghost use Rattle.alm_engine.specs.Values.{loop_asked_of, loop_numbers_of};
 ghost use Rattle.alm_engine.specs.LoopRuns.{loop_run};
 ghost use Rattle.alm_optimizer.specs.Calls.{loop_gave};
-ghost use Rattle.transcript.specs.Texts.{loop_name, loop_then, loop_first, loop_second, loop_asked, loop_ended, loop_line};
+ghost use Rattle.transcript.specs.Texts.{loop_name, loop_then, loop_asked, loop_ended, loop_line};
+ghost use Rattle.transcript.specs.Places.{carried_second, loop_first, loop_second};
 
 use crate::output::{Line, ended, failed, places, refused, shown};
 use crate::{inner, names};
 use alm_engine::alm_cache::{
-    AlmAnswered, AlmOptimizerStatus, AlmOutcome, AlmQuestion, AlmRun, AlmSettings,
+    Alm, AlmAnswered, AlmOptimizerStatus, AlmOutcome, AlmPhase, AlmQuestion, AlmRun,
 };
 use alm_optimizer::showing::points;
-use panoc_engine::panoc_cache::Question;
+use panoc_engine::panoc_cache::{Phase, Question};
 use words::line_printing::{put_counted, put_floats};
 
 // What a call gave.
@@ -57,14 +58,14 @@ fn then(question: AlmQuestion) -> &'static [u8]
 }
 
 // How many places its first point has.
-fn first_places(question: AlmQuestion, set: AlmSettings) -> usize
-    ensures { result ≡ loop_first (loop_settings_of set) (loop_asked_of question) }
+fn first_places(s: Alm) -> usize
+    ensures { result ≡ loop_first s }
 {
-    match question {
-        AlmQuestion::Inner(inner) => inner::first_places(inner, set.n),
-        AlmQuestion::Time => 0,
-        AlmQuestion::ProjectY | AlmQuestion::ProjectC => set.n1,
-        AlmQuestion::F1 | AlmQuestion::F2 | AlmQuestion::Cost => set.n,
+    match s.phase {
+        AlmPhase::Over | AlmPhase::Time => 0,
+        AlmPhase::Inner => inner::first_places(s.set.n, s.solve.phase),
+        AlmPhase::ProjectY | AlmPhase::ProjectC => s.set.n1,
+        AlmPhase::F1 | AlmPhase::F2 | AlmPhase::LastCost => s.set.n,
     }
 }
 
@@ -80,15 +81,30 @@ fn xi_places(n1: usize, n2: usize) -> usize
     }
 }
 
-// How many its second point has, at most 64.
-fn second_places(question: AlmQuestion, set: AlmSettings) -> usize
-    ensures { result ≡ min (loop_second (loop_settings_of set) (loop_asked_of question)) 64 }
+// How many the second point of a question of the inner solve has, where a xi has so many places.
+fn carried_places(n: usize, xi: usize, phase: Phase) -> usize
+    ensures { result ≡ carried_second n xi phase }
 {
-    match question {
-        AlmQuestion::Inner(Question::Cost | Question::Gradient) | AlmQuestion::Cost => {
-            xi_places(set.n1, set.n2)
-        }
-        AlmQuestion::Inner(inner) => inner::second_places(inner, set.n).min(64),
+    match phase {
+        Phase::Direction => n,
+        Phase::Over
+        | Phase::Project
+        | Phase::DoubledProject
+        | Phase::FirstProject
+        | Phase::TriedProject
+        | Phase::Time => 0,
+        _ => xi,
+    }
+}
+
+// How many its second point has, at most 64.
+fn second_places(s: Alm) -> usize
+    ensures { result ≡ min (loop_second s) 64 }
+{
+    let xi = xi_places(s.set.n1, s.set.n2);
+    match s.phase {
+        AlmPhase::LastCost => xi,
+        AlmPhase::Inner => carried_places(s.set.n, xi, s.solve.phase).min(64),
         _ => 0,
     }
 }
@@ -97,9 +113,8 @@ fn second_places(question: AlmQuestion, set: AlmSettings) -> usize
 fn put_asked(question: AlmQuestion, run: &AlmRun) -> Line
     ensures { result.items ≡ loop_asked (loop_run run.now.alm run.now.board) (loop_asked_of question) }
 {
-    let set = run.alm.set;
-    let n = first_places(question, set).min(64);
-    let m = second_places(question, set);
+    let n = first_places(run.alm).min(64);
+    let m = second_places(run.alm);
     let mut p = places();
     let mut q = places();
     let first = &mut p[..n];

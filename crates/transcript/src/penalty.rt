@@ -2,14 +2,16 @@
 ghost use Rattle.std.specs.Prelude.{◌≡◌, ◌≤◌, length};
 ghost use Rattle.std.specs.Float.{binary64};
 ghost use Rattle.machine.specs.PsiRest.{psi_rest, d_psi_rest};
-ghost use Rattle.alm_factory.specs.Values.{asked_of, sizes_of};
+ghost use Rattle.alm_factory.specs.Values.{asked_of};
 ghost use Rattle.alm_factory.specs.Runs.{psi_of, psi_gave, d_psi_of, d_psi_gave};
-ghost use Rattle.transcript.specs.Texts.{penalty_name, penalty_then, penalty_first, penalty_second, penalty_asked, psi_ended, psi_line, d_psi_line};
+ghost use Rattle.transcript.specs.Texts.{penalty_name, penalty_then, penalty_asked, psi_ended, psi_line, d_psi_line};
+ghost use Rattle.transcript.specs.Places.{psi_first, d_psi_first, d_psi_second};
 
 use crate::output::{Line, alone, failed, places, refused, shown};
 use alm_factory::points::{d_psi_points, psi_points};
 use alm_factory::records::{
-    DPsiAnswered, DPsiOutcome, DPsiRun, PsiAnswered, PsiOutcome, PsiQuestion, PsiRun, Sizes,
+    DPsiAnswered, DPsiOutcome, DPsiPhase, DPsiRun, PsiAnswered, PsiOutcome, PsiPhase, PsiQuestion,
+    PsiRun, Sizes,
 };
 use words::line_printing::put_point;
 
@@ -75,47 +77,55 @@ fn then(question: PsiQuestion) -> &'static [u8]
     }
 }
 
-// How many places its first point has: PROJECT on C has places of C.
-fn first_places(question: PsiQuestion, sizes: Sizes) -> usize
-    ensures { result ≡ penalty_first (sizes_of sizes) (asked_of question) }
+// How many places the point of the question of psi has: PROJECT on C has places of C.
+fn psi_places(sizes: Sizes, phase: PsiPhase) -> usize
+    ensures { result ≡ psi_first sizes phase }
 {
-    match question {
-        PsiQuestion::ProjectC => sizes.n1,
+    match phase {
+        PsiPhase::ProjectC => sizes.n1,
         _ => sizes.n,
     }
 }
 
-// How many its second point has.
-fn second_places(question: PsiQuestion, sizes: Sizes) -> usize
-    ensures { result ≡ penalty_second (sizes_of sizes) (asked_of question) }
+// How many the first point of the question of d_psi has, and the second.
+fn first_places(sizes: Sizes, phase: DPsiPhase) -> usize
+    ensures { result ≡ d_psi_first sizes phase }
 {
-    match question {
-        PsiQuestion::Jf1t => sizes.n1,
-        PsiQuestion::Jf2t => sizes.n2,
+    match phase {
+        DPsiPhase::ProjectC => sizes.n1,
+        _ => sizes.n,
+    }
+}
+
+fn second_places(sizes: Sizes, phase: DPsiPhase) -> usize
+    ensures { result ≡ d_psi_second sizes phase }
+{
+    match phase {
+        DPsiPhase::Jf1t => sizes.n1,
+        DPsiPhase::Jf2t => sizes.n2,
         _ => 0,
     }
 }
 
 // A question of psi, with its points.
 fn psi_asked(question: PsiQuestion, run: PsiRun) -> Line
-    ensures { result.items ≡ penalty_asked (sizes_of run.psi.sizes) (psi_rest binary64 (psi_of run)) (asked_of question) }
+    ensures { result.items ≡ penalty_asked (psi_rest binary64 (psi_of run)) (asked_of question) }
 {
-    let n = first_places(question, run.psi.sizes).min(64);
-    let m = second_places(question, run.psi.sizes).min(64);
+    let n = psi_places(run.psi.sizes, run.psi.phase).min(64);
     let mut p = places();
     let mut q = places();
     let first = &mut p[..n];
-    let second = &mut q[..m];
+    let second = &mut q[..0];
     let done = psi_points(run, first, second);
     shown(done, name(question), first, then(question), second)
 }
 
 // One of d_psi.
 fn d_psi_asked(question: PsiQuestion, run: DPsiRun) -> Line
-    ensures { result.items ≡ penalty_asked (sizes_of run.d_psi.sizes) (d_psi_rest binary64 (d_psi_of run)) (asked_of question) }
+    ensures { result.items ≡ penalty_asked (d_psi_rest binary64 (d_psi_of run)) (asked_of question) }
 {
-    let n = first_places(question, run.d_psi.sizes).min(64);
-    let m = second_places(question, run.d_psi.sizes).min(64);
+    let n = first_places(run.d_psi.sizes, run.d_psi.phase).min(64);
+    let m = second_places(run.d_psi.sizes, run.d_psi.phase).min(64);
     let mut p = places();
     let mut q = places();
     let first = &mut p[..n];
