@@ -346,7 +346,7 @@ pub fn run(seed: u64, index: u64, mix: &Mix, tape: Tape, mut tally: Tally) -> (T
             starts::accepted(&mut random, call, starts::Length::Long)
         }
         32..=35 if call == Call::Loop => starts::outside(&mut random),
-        _ if index % 100_000 == 77_777 => {
+        _ if index % 5_000 == 4_777 => {
             tally.add("runs of all iterations");
             plan = Plan::only(Base::Plain);
             starts::marathon(&mut random)
