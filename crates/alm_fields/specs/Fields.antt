@@ -1,12 +1,13 @@
 -- What the fields of a loop stand for, and what C is to see of what the machine leaves. Definitions only.
-use Rattle.std.specs.Prelude.{ℕ, suc, ◌≡◌, cond, List, [], ◌∷◌, Float, length, eqb, get_or}
+use Rattle.std.specs.Prelude.{ℕ, suc, ◌≡◌, cond, true, List, [], ◌∷◌, Float, length, eqb, get_or}
 use Rattle.std.proofs.Math.Option.{Option}
 use Rattle.std.specs.Float.{binary64}
-use Rattle.model.specs.Refusals.{Reply}
+use Rattle.model.specs.Refusals.{Reply, answer_refusal}
 use Rattle.board.specs.Board.{vector, U, Y_PLUS}
 use Rattle.machine.specs.Waits.{any_refusal}
 use Rattle.machine.specs.LoopCalls.{lent_right}
-use Rattle.machine.specs.LoopAnswer.{wanted_by, plan_after, xi_after, answer_any}
+use Rattle.machine.specs.LoopAnswer.{wanted_by, plan_after, xi_after, answered, answer_any}
+use Rattle.machine.specs.LoopMoves.{carried}
 use Rattle.machine.specs.Told.{asked, ended, refused, failed}
 use Rattle.machine.specs.Numbers.{outcome_number, told_number, table_number, flag_of, status_number}
 use Rattle.machine.specs.Numbers.{question_number as inner_question_number, end_number as inner_end_number}
@@ -14,7 +15,8 @@ use Rattle.machine.specs.InnerRun as M
 use Rattle.machine.specs.LoopNumbers.{question_number, end_number, phase_number}
 use Rattle.machine.specs.LoopRun as L
 use Rattle.panoc_engine.specs.declared.panoc_cache.SolverStatus.{SolverStatus}
-use Rattle.panoc_engine.specs.Values.{status_of}
+use Rattle.panoc_engine.specs.declared.panoc_cache.Reply as C
+use Rattle.panoc_engine.specs.Values.{status_of, reply_of}
 use Rattle.panoc_fields.specs.declared.fields.InnerEnd.{InnerEnd}
 use Rattle.panoc_fields.specs.declared.fields.InnerFields.{InnerFields}
 use Rattle.panoc_fields.specs.Fields.{solve_at, status_at, end_after as inner_end_after}
@@ -140,6 +142,20 @@ pub record Tells (t : M.Told) (r : ℕ) (was : InnerEnd) (is : InnerFields) : Ty
   pub outcome : is.outcome ≡ outcome_number t
   pub told : is.told ≡ told_number inner_question_number inner_end_number t
   pub end : is.end ≡ inner_end_after t was
+
+-- ---- an answer that nothing refuses
+
+-- the table takes the answer a, the vector lent with it having vs places
+abbrev pub Accepted : C.Reply → ℕ → InnerFields → AlmFields → List Float → Type 0
+Accepted a vs i f l = answer_refusal (wanted_by (loop_run_at i f l)) (reply_of a) vs true ≡ 0
+
+-- C sees what it leaves, v being the vector lent with it: r is the number, and i', f' and l' the fields and the board after it
+abbrev pub Answered : C.Reply → List Float → InnerFields → AlmFields → List Float → ℕ → InnerFields → AlmFields → List Float → Type 0
+Answered a v i f l r i' f' l' = seen r i' f' l' ≡ exact (answered binary64 (loop_run_at i f l) (reply_of a) v) f.end
+
+-- the same of what the inner solve has told, carried on
+abbrev pub Carried : M.Told → InnerFields → AlmFields → List Float → ℕ → InnerFields → AlmFields → List Float → Type 0
+Carried t i f l r i' f' l' = seen r i' f' l' ≡ exact (carried binary64 t (loop_run_at i f l)) f.end
 
 -- ---- the calls
 

@@ -1,17 +1,13 @@
 // An answer that nothing refuses, put into the fields of a run and into its board. At a question of the inner solve its handlers run on its fields and its nine vectors; what the loop keeps is read only once
 // that has ended. Each arm of the loop's own takes the small part of the run out of the fields and puts what is changed back.
-ghost use Rattle.std.specs.Prelude.{ℕ, ◌≡◌, ◌≤◌, true, List, Float, length};
-ghost use Rattle.std.specs.Float.{binary64};
-ghost use Rattle.model.specs.Refusals.{answer_refusal};
+ghost use Rattle.std.specs.Prelude.{ℕ, ◌≡◌, ◌≤◌, List, Float, length};
 ghost use Rattle.machine.specs.InnerRun as M;
-ghost use Rattle.machine.specs.LoopMoves.{carried};
-ghost use Rattle.machine.specs.LoopAnswer.{wanted_by, answered};
 ghost use Rattle.panoc_engine.specs.declared.panoc_cache.Reply.TheVariants.{Number, Vector, Failure};
-ghost use Rattle.panoc_engine.specs.Values.{reply_of, decided};
+ghost use Rattle.panoc_engine.specs.Values.{decided};
 ghost use Rattle.panoc_fields.specs.declared.fields.InnerEnd.{InnerEnd};
 ghost use Rattle.alm_engine.specs.declared.alm_cache.AlmPhase.TheVariants as P;
 ghost use Rattle.alm_engine.specs.LoopRuns.{Stands};
-ghost use Rattle.alm_fields.specs.Fields.{phase_at, alm_at, loop_run_at, solver_status_at, Tells, seen, exact};
+ghost use Rattle.alm_fields.specs.Fields.{phase_at, alm_at, solver_status_at, Tells, Accepted, Answered, Carried};
 
 use crate::fields::{AlmFields, alm_of};
 use crate::keeping::{keep_ended, keep_iterated, keep_moved, keep_weighed};
@@ -49,7 +45,7 @@ fn carry(number: u32, inner: &mut InnerFields, alm: &mut AlmFields, board: &mut 
     requires made { Stands (alm_at inner.old alm.old) board.old }
     requires carried { alm.old.phase ≡ 3 }
     requires counted { inner.old.outcome ≡ 1 → inner.old.end.iterations ≤ 10000 }
-    ensures { (t : M.Told) (was : InnerEnd) → Tells t number was inner.old → seen result inner.new alm.new board.new ≡ exact (carried binary64 t (loop_run_at inner.old alm.old board.old)) alm.old.end }
+    ensures { (t : M.Told) (was : InnerEnd) → Tells t number was inner.old → Carried t inner.old alm.old board.old result inner.new alm.new board.new }
 {
     let outcome = inner.outcome;
     if outcome == ASKED {
@@ -69,8 +65,8 @@ fn carry(number: u32, inner: &mut InnerFields, alm: &mut AlmFields, board: &mut 
 fn carry_number(x: f64, inner: &mut InnerFields, alm: &mut AlmFields, board: &mut [f64]) -> u32
     requires places { 768 ≤ length board.old }
     requires carried { phase_at alm.old.phase ≡ P.Inner }
-    requires accepted { answer_refusal (wanted_by (loop_run_at inner.old alm.old board.old)) (reply_of (Number x)) 0 true ≡ 0 }
-    ensures { (v : List Float) → seen result inner.new alm.new board.new ≡ exact (answered binary64 (loop_run_at inner.old alm.old board.old) (reply_of (Number x)) v) alm.old.end }
+    requires accepted { Accepted (Number x) 0 inner.old alm.old board.old }
+    ensures { (v : List Float) → Answered (Number x) v inner.old alm.old board.old result inner.new alm.new board.new }
 {
     let number = inner_number(x, inner, &mut board[..576]);
     carry(number, inner, alm, board)
@@ -81,8 +77,8 @@ fn carry_number(x: f64, inner: &mut InnerFields, alm: &mut AlmFields, board: &mu
 fn carry_vector(v: &[f64], inner: &mut InnerFields, alm: &mut AlmFields, board: &mut [f64]) -> u32
     requires places { 768 ≤ length board.old }
     requires carried { phase_at alm.old.phase ≡ P.Inner }
-    requires accepted { answer_refusal (wanted_by (loop_run_at inner.old alm.old board.old)) (reply_of Vector) (length v.now) true ≡ 0 }
-    ensures { seen result inner.new alm.new board.new ≡ exact (answered binary64 (loop_run_at inner.old alm.old board.old) (reply_of Vector) v.now) alm.old.end }
+    requires accepted { Accepted Vector (length v.now) inner.old alm.old board.old }
+    ensures { Answered Vector v.now inner.old alm.old board.old result inner.new alm.new board.new }
 {
     let number = inner_vector(v, inner, &mut board[..576]);
     carry(number, inner, alm, board)
@@ -93,8 +89,8 @@ fn carry_vector(v: &[f64], inner: &mut InnerFields, alm: &mut AlmFields, board: 
 fn carry_decision(yes: bool, inner: &mut InnerFields, alm: &mut AlmFields, board: &mut [f64]) -> u32
     requires places { 768 ≤ length board.old }
     requires carried { phase_at alm.old.phase ≡ P.Inner }
-    requires accepted { answer_refusal (wanted_by (loop_run_at inner.old alm.old board.old)) (reply_of (decided yes)) 0 true ≡ 0 }
-    ensures { (v : List Float) → seen result inner.new alm.new board.new ≡ exact (answered binary64 (loop_run_at inner.old alm.old board.old) (reply_of (decided yes)) v) alm.old.end }
+    requires accepted { Accepted (decided yes) 0 inner.old alm.old board.old }
+    ensures { (v : List Float) → Answered (decided yes) v inner.old alm.old board.old result inner.new alm.new board.new }
 {
     let number = inner_decision(yes, inner, &mut board[..576]);
     carry(number, inner, alm, board)
@@ -105,8 +101,8 @@ fn carry_decision(yes: bool, inner: &mut InnerFields, alm: &mut AlmFields, board
 // The number x.
 pub fn answer_number(x: f64, inner: &mut InnerFields, alm: &mut AlmFields, board: &mut [f64]) -> u32
     requires places { 768 ≤ length board.old }
-    requires accepted { answer_refusal (wanted_by (loop_run_at inner.old alm.old board.old)) (reply_of (Number x)) 0 true ≡ 0 }
-    ensures { (v : List Float) → seen result inner.new alm.new board.new ≡ exact (answered binary64 (loop_run_at inner.old alm.old board.old) (reply_of (Number x)) v) alm.old.end }
+    requires accepted { Accepted (Number x) 0 inner.old alm.old board.old }
+    ensures { (v : List Float) → Answered (Number x) v inner.old alm.old board.old result inner.new alm.new board.new }
 {
     let phase = phase_at(alm.phase);
     match phase {
@@ -124,8 +120,8 @@ pub fn answer_vector(
     board: &mut [f64],
 ) -> u32
     requires places { 768 ≤ length board.old }
-    requires accepted { answer_refusal (wanted_by (loop_run_at inner.old alm.old board.old)) (reply_of Vector) (length v.now) true ≡ 0 }
-    ensures { seen result inner.new alm.new board.new ≡ exact (answered binary64 (loop_run_at inner.old alm.old board.old) (reply_of Vector) v.now) alm.old.end }
+    requires accepted { Accepted Vector (length v.now) inner.old alm.old board.old }
+    ensures { Answered Vector v.now inner.old alm.old board.old result inner.new alm.new board.new }
 {
     let phase = phase_at(alm.phase);
     match phase {
@@ -146,8 +142,8 @@ pub fn answer_decision(
     board: &mut [f64],
 ) -> u32
     requires places { 768 ≤ length board.old }
-    requires accepted { answer_refusal (wanted_by (loop_run_at inner.old alm.old board.old)) (reply_of (decided yes)) 0 true ≡ 0 }
-    ensures { (v : List Float) → seen result inner.new alm.new board.new ≡ exact (answered binary64 (loop_run_at inner.old alm.old board.old) (reply_of (decided yes)) v) alm.old.end }
+    requires accepted { Accepted (decided yes) 0 inner.old alm.old board.old }
+    ensures { (v : List Float) → Answered (decided yes) v inner.old alm.old board.old result inner.new alm.new board.new }
 {
     let phase = phase_at(alm.phase);
     match phase {
@@ -159,7 +155,7 @@ pub fn answer_decision(
 
 // The host's failure by its code; an inner solve that was asked has ended too.
 fn answer_failure(code: u32, inner: &mut InnerFields, alm: &mut AlmFields) -> u32
-    ensures { (l v : List Float) (vs : ℕ) → 768 ≤ length l → answer_refusal (wanted_by (loop_run_at inner.old alm.old l)) (reply_of (Failure code)) vs true ≡ 0 → seen result inner.new alm.new l ≡ exact (answered binary64 (loop_run_at inner.old alm.old l) (reply_of (Failure code)) v) alm.old.end }
+    ensures { (l v : List Float) (vs : ℕ) → 768 ≤ length l → Accepted (Failure code) vs inner.old alm.old l → Answered (Failure code) v inner.old alm.old l result inner.new alm.new l }
 {
     let phase = phase_at(alm.phase);
     if let AlmPhase::Inner = phase {
@@ -179,8 +175,8 @@ pub fn answer_accepted(
     board: &mut [f64],
 ) -> u32
     requires places { 768 ≤ length board.old }
-    requires accepted { answer_refusal (wanted_by (loop_run_at inner.old alm.old board.old)) (reply_of a) (length v.now) true ≡ 0 }
-    ensures { seen result inner.new alm.new board.new ≡ exact (answered binary64 (loop_run_at inner.old alm.old board.old) (reply_of a) v.now) alm.old.end }
+    requires accepted { Accepted a (length v.now) inner.old alm.old board.old }
+    ensures { Answered a v.now inner.old alm.old board.old result inner.new alm.new board.new }
 {
     match a {
         Reply::Number(x) => answer_number(x, inner, alm, board),
