@@ -6,7 +6,7 @@ use Rattle.std.proofs.lemmas.List.{take-replicate, length-replicate}
 use Rattle.std.specs.declared.result.Result.{Result}
 use Rattle.std.specs.Float.{binary64}
 use Rattle.ieee.specs.Numbers.{null}
-use Rattle.model.specs.Process.{Process, refused, stop, PsiQuestion}
+use Rattle.model.specs.Process.{Process, refused, stop, Question, LoopQuestion, PsiQuestion}
 use Rattle.model.specs.Loop.{LoopSettings, xi_of}
 use Rattle.model.specs.Refusals.{xi_length}
 use Rattle.board.specs.Board.{vector, board_of, U, PLUS, STEP, HALF, FPR, BEST, Y, Y_PLUS}
@@ -83,6 +83,16 @@ abbrev Fits : {Q : Type 0} → (Q → List Float) → (Q → List Float) → Opt
 Fits first second none a b = Unit {0}
 Fits first second (some q) a b = (min a 64 ≡ length (first q)) × (min b 64 ≡ length (second q))
 
+abbrev InnerFits : Option Question → ℕ → ℕ → Type 0
+InnerFits = Fits InnerCalls.first_point InnerCalls.second_point
+
+abbrev LoopFits : Option LoopQuestion → ℕ → ℕ → Type 0
+LoopFits = Fits LoopCalls.first_point LoopCalls.second_point
+
+abbrev PsiFits : Option PsiQuestion → ℕ → ℕ → Type 0
+PsiFits = Fits first_point second_point
+
+-- what is printed of what a call has put into the slices
 abbrev said : List ℕ → List ℕ → Shown → List ℕ
 said w t s = shown_text w t s.number s.first s.second
 
@@ -102,14 +112,14 @@ module _ (w t : List ℕ) (z z' : List Float) (zero : z ≡ replicate 64 null) (
         rw (x, y) refl
 
   module _ (done : Result (Unit {0}) Refusal) (xs ys : List Float) where
-    pub inner_said : (r : Inner.Run) (q : Inner.Asked) → Fits InnerCalls.first_point InnerCalls.second_point (InnerAnswer.question_of r) a b → w ≡ inner_name q → t ≡ inner_then q
+    pub inner_said : (r : Inner.Run) (q : Inner.Asked) → InnerFits (InnerAnswer.question_of r) a b → w ≡ inner_name q → t ≡ inner_then q
         → shows done xs ys ≡ InnerAnswer.points r (take n z) (take m z') → shown_text w t (number_in done) xs ys ≡ inner_asked r q
     unfolding inner_asked InnerAnswer.points
     inner_said r q g c d s =
         ap (λ (s : Shown). said w t s) s ∙ stands InnerCalls.first_point InnerCalls.second_point (InnerAnswer.question_of r) g
         ∙ ap₂ (λ (x y : List ℕ). question_text x y InnerCalls.first_point InnerCalls.second_point (InnerAnswer.question_of r)) c d
 
-    pub loop_said : (r : Loop.Run) (q : Loop.Asked) → Fits LoopCalls.first_point LoopCalls.second_point (LoopAnswer.question_of r) a b → w ≡ loop_name q → t ≡ loop_then q
+    pub loop_said : (r : Loop.Run) (q : Loop.Asked) → LoopFits (LoopAnswer.question_of r) a b → w ≡ loop_name q → t ≡ loop_then q
         → shows done xs ys ≡ LoopAnswer.points r (take n z) (take m z') → shown_text w t (number_in done) xs ys ≡ loop_asked r q
     unfolding loop_asked LoopAnswer.points
     loop_said r q g c d s =
@@ -134,7 +144,7 @@ module _ (w t : List ℕ) (z z' : List Float) (zero : z ≡ replicate 64 null) (
             test true j = let n : k ≡ 0 = number ∙ ap (λ (b : Bool). cond b 0 8) j in let h = g.points n q e in let x = h.0 in let y = h.1 in rw (n, x, y) refl
             test false j = let n : k ≡ 8 = number ∙ ap (λ (b : Bool). cond b 0 8) j in rw n refl
 
-    pub penalty_said : (q : Psi.Asked) → Fits first_point second_point (asking p) a b → w ≡ penalty_name q → t ≡ penalty_then q → shown_text w t k xs ys ≡ penalty_asked p q
+    pub penalty_said : (q : Psi.Asked) → PsiFits (asking p) a b → w ≡ penalty_name q → t ≡ penalty_then q → shown_text w t k xs ys ≡ penalty_asked p q
     unfolding penalty_asked
     penalty_said q h c d =
         related ∙ stands first_point second_point (asking p) h ∙ ap₂ (λ (x y : List ℕ). question_text x y first_point second_point (asking p)) c d
@@ -145,7 +155,7 @@ module _ (s : Solve) (l : List Float) where
     size : (j : ℕ) → min s.set.n 64 ≡ length (vector j s.set.n l)
     size j = omega (arith, h, length_vector j s.set.n l)
 
-    inner_at : (k : Phase) → Fits InnerCalls.first_point InnerCalls.second_point (InnerAnswer.question_at (run_of s l) (phase_of k)) (first_places s.set.n k) (second_places s.set.n k)
+    inner_at : (k : Phase) → InnerFits (InnerAnswer.question_at (run_of s l) (phase_of k)) (first_places s.set.n k) (second_places s.set.n k)
     unfolding run_of board_of
     inner_at P.Over = tt
     inner_at P.Cost = (size U, refl)
@@ -165,12 +175,12 @@ module _ (s : Solve) (l : List Float) where
     inner_at P.Time = (refl, refl)
     inner_at P.LastCost = (size BEST, refl)
 
-  pub inner_fits : Fits InnerCalls.first_point InnerCalls.second_point (InnerAnswer.question_of (run_of s l)) (first_places s.set.n s.phase) (second_places s.set.n s.phase)
+  pub inner_fits : InnerFits (InnerAnswer.question_of (run_of s l)) (first_places s.set.n s.phase) (second_places s.set.n s.phase)
   unfolding run_of InnerAnswer.question_of
   inner_fits = by (InnerRest.sound (run_of s l)) refl
     where
       by : (t : Bool) → InnerRest.sound (run_of s l) ≡ t
-          → Fits InnerCalls.first_point InnerCalls.second_point (cond t (InnerAnswer.question_at (run_of s l) (phase_of s.phase)) none) (first_places s.set.n s.phase) (second_places s.set.n s.phase)
+          → InnerFits (cond t (InnerAnswer.question_at (run_of s l) (phase_of s.phase)) none) (first_places s.set.n s.phase) (second_places s.set.n s.phase)
       by true e = inner_at (sound_n (run_of s l) e) s.phase
       by false e = tt
 
@@ -197,7 +207,11 @@ module _ (s : Alm) (l : List Float) where
     abbrev many : ℕ
     many = xi_length s.set.n1 s.set.n2
 
-    carried_at : (k : Phase) → Fits LoopCalls.first_point LoopCalls.second_point (LoopAnswer.carrying (xi_of (loop_run s l).set (loop_run s l).c (loop_run s l).y) (InnerAnswer.question_at (loop_run s l).solve (phase_of k))) (first_places s.set.n k) (carried_second s.set.n many k)
+    -- a question of the inner solve with the xi that it comes with
+    abbrev carried : Option Question → Option LoopQuestion
+    carried = LoopAnswer.carrying (xi_of (loop_run s l).set (loop_run s l).c (loop_run s l).y)
+
+    carried_at : (k : Phase) → LoopFits (carried (InnerAnswer.question_at (loop_run s l).solve (phase_of k))) (first_places s.set.n k) (carried_second s.set.n many k)
     unfolding loop_run loop_board_of board_of
     carried_at P.Over = tt
     carried_at P.Cost = (here U, xi s.numbers.penalty)
@@ -217,14 +231,14 @@ module _ (s : Alm) (l : List Float) where
     carried_at P.Time = (refl, refl)
     carried_at P.LastCost = (here BEST, xi s.numbers.penalty)
 
-    loop_at : (k : AlmPhase) → Fits LoopCalls.first_point LoopCalls.second_point (LoopAnswer.question_at (loop_run s l) (loop_phase_of k)) (own_first s.set (first_places s.set.n s.solve.phase) k) (own_second many (carried_second s.set.n many s.solve.phase) k)
+    loop_at : (k : AlmPhase) → LoopFits (LoopAnswer.question_at (loop_run s l) (loop_phase_of k)) (own_first s.set (first_places s.set.n s.solve.phase) k) (own_second many (carried_second s.set.n many s.solve.phase) k)
     unfolding loop_run loop_board_of board_of InnerAnswer.question_of
     loop_at A.Over = tt
     loop_at A.Time = (refl, refl)
     loop_at A.ProjectY = (here1 Y, refl)
     loop_at A.Inner = by (InnerRest.sound (loop_run s l).solve)
       where
-        by : (t : Bool) → Fits LoopCalls.first_point LoopCalls.second_point (LoopAnswer.carrying (xi_of (loop_run s l).set (loop_run s l).c (loop_run s l).y) (cond t (InnerAnswer.question_at (loop_run s l).solve (phase_of s.solve.phase)) none))
+        by : (t : Bool) → LoopFits (carried (cond t (InnerAnswer.question_at (loop_run s l).solve (phase_of s.solve.phase)) none))
             (first_places s.set.n s.solve.phase) (carried_second s.set.n many s.solve.phase)
         by true = carried_at s.solve.phase
         by false = tt
@@ -233,18 +247,18 @@ module _ (s : Alm) (l : List Float) where
     loop_at A.F2 = (here BEST, refl)
     loop_at A.LastCost = (here U, xi null)
 
-  pub loop_fits : Fits LoopCalls.first_point LoopCalls.second_point (LoopAnswer.question_of (loop_run s l)) (loop_first s) (loop_second s)
+  pub loop_fits : LoopFits (LoopAnswer.question_of (loop_run s l)) (loop_first s) (loop_second s)
   unfolding loop_run LoopAnswer.question_of
   loop_fits = by (LoopRest.sound (loop_run s l)) refl
     where
       by : (t : Bool) → LoopRest.sound (loop_run s l) ≡ t
-          → Fits LoopCalls.first_point LoopCalls.second_point (cond t (LoopAnswer.question_at (loop_run s l) (loop_phase_of s.phase)) none) (loop_first s) (loop_second s)
+          → LoopFits (cond t (LoopAnswer.question_at (loop_run s l) (loop_phase_of s.phase)) none) (loop_first s) (loop_second s)
       by true e = let z = sound_sized (loop_run s l) e in loop_at (sized_n (loop_run s l) z) (sized_n1 (loop_run s l) z) s.phase
       by false e = tt
 
 -- ---- psi and d_psi
 module _ (s : PsiRecord.Psi) (l : List Float) where
-  psi_at : s.sizes.n ≤ 64 → s.sizes.n1 ≤ 32 → (k : PsiPhase) → Fits first_point second_point (asking (psi_resume binary64 (psi_run s l) (psi_phase_of k))) (psi_first s.sizes k) 0
+  psi_at : s.sizes.n ≤ 64 → s.sizes.n1 ≤ 32 → (k : PsiPhase) → PsiFits (asking (psi_resume binary64 (psi_run s l) (psi_phase_of k))) (psi_first s.sizes k) 0
   unfolding psi_run psi_resume asking
   psi_at h h1 S.Over = tt
   psi_at h h1 S.Cost = (omega (arith, length_vector V.U s.sizes.n l), refl)
@@ -252,12 +266,12 @@ module _ (s : PsiRecord.Psi) (l : List Float) where
   psi_at h h1 S.ProjectC = (omega (arith, length_vector V.T s.sizes.n1 l), refl)
   psi_at h h1 S.F2 = (omega (arith, length_vector V.U s.sizes.n l), refl)
 
-  pub psi_fits : Fits first_point second_point (asking (psi_rest binary64 (psi_run s l))) (psi_first s.sizes s.phase) 0
+  pub psi_fits : PsiFits (asking (psi_rest binary64 (psi_run s l))) (psi_first s.sizes s.phase) 0
   unfolding psi_run PsiRest.rest asking
   psi_fits = by (PsiRest.sound (sizes_of s.sizes)) refl
     where
       by : (t : Bool) → PsiRest.sound (sizes_of s.sizes) ≡ t
-          → Fits first_point second_point (asking (cond t (psi_resume binary64 (psi_run s l) (psi_phase_of s.phase)) (stop (refused 6)))) (psi_first s.sizes s.phase) 0
+          → PsiFits (asking (cond t (psi_resume binary64 (psi_run s l) (psi_phase_of s.phase)) (stop (refused 6)))) (psi_first s.sizes s.phase) 0
       by true e = psi_at (PsiLaws.sound_n (sizes_of s.sizes) e) (PsiLaws.sound_n1 (sizes_of s.sizes) e) s.phase
       by false e = tt
 
@@ -266,7 +280,7 @@ module _ (s : DPsiRecord.DPsi) (l : List Float) where
     product : (k : ℕ) → k ≤ 32 → min k 64 ≡ length (take k (vector V.D 64 l))
     product k h = omega (arith, length_vector V.D k l, ap length (take_vector V.D k l (omega arith)))
 
-    d_psi_at : (k : DPsiPhase) → Fits first_point second_point (asking (d_psi_resume binary64 (d_psi_run s l) (d_psi_phase_of k))) (d_psi_first s.sizes k) (d_psi_second s.sizes k)
+    d_psi_at : (k : DPsiPhase) → PsiFits (asking (d_psi_resume binary64 (d_psi_run s l) (d_psi_phase_of k))) (d_psi_first s.sizes k) (d_psi_second s.sizes k)
     unfolding d_psi_run d_psi_resume asking
     d_psi_at D.Over = tt
     d_psi_at D.Gradient = (omega (arith, length_vector V.U s.sizes.n l), refl)
@@ -276,11 +290,11 @@ module _ (s : DPsiRecord.DPsi) (l : List Float) where
     d_psi_at D.F2 = (omega (arith, length_vector V.U s.sizes.n l), refl)
     d_psi_at D.Jf2t = (omega (arith, length_vector V.U s.sizes.n l), product s.sizes.n2 h2)
 
-  pub d_psi_fits : Fits first_point second_point (asking (d_psi_rest binary64 (d_psi_run s l))) (d_psi_first s.sizes s.phase) (d_psi_second s.sizes s.phase)
+  pub d_psi_fits : PsiFits (asking (d_psi_rest binary64 (d_psi_run s l))) (d_psi_first s.sizes s.phase) (d_psi_second s.sizes s.phase)
   unfolding d_psi_run PsiRest.rest asking
   d_psi_fits = by (PsiRest.sound (sizes_of s.sizes)) refl
     where
       by : (t : Bool) → PsiRest.sound (sizes_of s.sizes) ≡ t
-          → Fits first_point second_point (asking (cond t (d_psi_resume binary64 (d_psi_run s l) (d_psi_phase_of s.phase)) (stop (refused 6)))) (d_psi_first s.sizes s.phase) (d_psi_second s.sizes s.phase)
+          → PsiFits (asking (cond t (d_psi_resume binary64 (d_psi_run s l) (d_psi_phase_of s.phase)) (stop (refused 6)))) (d_psi_first s.sizes s.phase) (d_psi_second s.sizes s.phase)
       by true e = d_psi_at (PsiLaws.sound_n (sizes_of s.sizes) e) (PsiLaws.sound_n1 (sizes_of s.sizes) e) (PsiLaws.sound_n2 (sizes_of s.sizes) e) s.phase
       by false e = tt

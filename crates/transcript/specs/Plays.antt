@@ -152,7 +152,7 @@ abbrev pub Says : Option (Said 128 128) → Standing → List Float → List Flo
 Says None o us xis t = t ≡ bad o us xis
 Says (Some s) o us xis t = Does s.command s.first.items s.second.items o us xis t
 
--- what a line leaves of the open run with its places and of the table, k before and k' after: a line of sets goes to the table and any other leaves it, both print what is said
+-- what a line leaves of the open run with its places and of the table, k before and k' after: a line of sets goes to the table, any other leaves it
 abbrev pub Turns : Option SetLine → Option (Said 128 128) → Standing → List Float → List Float → Kept → Turned → Kept → Type 0
 Turns (Some s) said o us xis k t k' = (k' ≡ changed s.change s.floats.items k) × (t ≡ record { open_run = o; u = us; xi = xis; printed = k'.printed })
 Turns None said o us xis k t k' = Says said o us xis t × (k' ≡ record k { printed = t.printed })

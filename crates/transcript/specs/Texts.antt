@@ -1,4 +1,4 @@
--- What a call is printed as, byte by byte: TRANSCRIPT.md, "What is printed". Each is a function of what the machine says that the call leaves. Definitions only.
+-- What a call is printed as, byte by byte, as a function of what the machine says that it leaves: TRANSCRIPT.md, "What is printed". Definitions only.
 use Rattle.std.specs.Prelude.{ℕ, zero, suc, true, false, List, [], ◌∷◌, ◌++◌, Float, codes}
 use Rattle.std.proofs.Math.Option.{Option, none, some}
 use Rattle.std.specs.Float.{binary64}

@@ -1,4 +1,5 @@
-// The words before the points of a question of the inner solve, which the loop carries too. Bytes and no Display: `shown` takes a word, whose length its clause bounds.
+// The words before the points of a question of the inner solve, which the loop carries too. Bytes and no Display: `shown` takes a word, whose
+// length its clause bounds.
 ghost use Rattle.std.specs.Prelude.{◌≡◌, ◌≤◌, length};
 ghost use Rattle.panoc_engine.specs.Values.{asked_of};
 ghost use Rattle.transcript.specs.Texts.{inner_name, inner_then};

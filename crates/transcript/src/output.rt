@@ -1,4 +1,5 @@
-// A line that is printed, and what several kinds of runs print alike. Nothing here is a Display: its writer gives no caller what was written, and a contract says the very bytes.
+// A line that is printed, and what several kinds of runs print alike. Nothing here is a Display: its writer gives no caller what was written, and a
+// contract says the very bytes.
 ghost use Rattle.arrayvec.specs.ArrayVec.{array_vec_len};
 ghost use Rattle.std.specs.Prelude.{◌≡◌, ◌≤◌, ◌++◌, length, replicate};
 ghost use Rattle.ieee.specs.Numbers.{null};
@@ -68,6 +69,7 @@ pub fn refused_by(number: u32) -> Line
     line
 }
 
+// The same of a refusal of the engine.
 pub fn refused(refusal: Refusal) -> Line
     ensures { result.items ≡ refused_text (refusal_number refusal) }
 {
