@@ -130,6 +130,31 @@ static size_t second_places(uint32_t q) {
   return q == PKR_JF1T ? d.n1 : q == PKR_JF2T ? d.n2 : 0;
 }
 
+/* The numbers and vectors of an inner solve are what their names say: where the first PROJECT is asked, and where COST is asked at a half step. */
+static void names_stand(const pkr_inner_fields *f, const double *board) {
+  const double *u = board + 64 * PKR_V_U, *step = board + 64 * PKR_V_STEP, *half = board + 64 * PKR_V_HALF, *fpr = board + 64 * PKR_V_FPR;
+  const double *gradient = board + 64 * PKR_V_GRADIENT;
+  double squares = 0;
+  if (f->phase == 4) {
+    CHECK(f->gamma == 0.95 / fmax(f->lipschitz_constant, 1e-10) && f->sigma == (1 - 0.95) / (4 * f->gamma));
+    for (size_t i = 0; i < f->n; i++) CHECK(step[i] == u[i] - f->gamma * gradient[i]);
+  }
+  if (f->phase != 5) return;
+  for (size_t i = 0; i < f->n; i++) {
+    CHECK(fpr[i] == u[i] - half[i] || fpr[i] != fpr[i]);
+    squares = squares + fpr[i] * fpr[i];
+  }
+  CHECK(f->norm_gamma_fpr == sqrt(squares) || squares != squares);
+  CHECK(!(f->best_norm_gamma_fpr > f->norm_gamma_fpr));
+}
+
+/* The penalty and the multipliers of a loop are those of the xi that is shown. */
+static void xi_stands(const pkr_loop *r, const double *xi) {
+  if (d.xis == 0) return;
+  CHECK(xi[0] == r->alm.penalty);
+  CHECK(memcmp(xi + 1, r->board + 64 * PKR_V_Y, d.n1 * sizeof *xi) == 0);
+}
+
 /* The points, copied: none for wrong lengths; the first is the one that lies in the run. */
 static void look(uint32_t q, double *first) {
   const size_t a = first_places(q), b = second_places(q);
@@ -145,7 +170,10 @@ static void look(uint32_t q, double *first) {
   if (kind == LOOP) {
     CHECK(pkr_loop_second(d.run, other, b + 1) == 8 && pkr_loop_second(d.run, other, b) == 0);
     CHECK(memcmp(s, other, b * sizeof *s) == 0);
+    if (q == PKR_COST || q == PKR_GRADIENT) xi_stands(d.run, s);
+    if (phase() == 3) names_stand(&((pkr_loop *)d.run)->inner, ((pkr_loop *)d.run)->board);
   }
+  if (kind == INNER) names_stand(d.run, ((pkr_inner *)d.run)->board);
   memcpy(first, p, a * sizeof *p);
   free(p);
   free(s);
