@@ -39,15 +39,15 @@ task quadratic_task(size_t n);
 task kiln_task(void);
 
 /* An inner solve, a loop, psi and d_psi through the C library, and through an older one. asked, where it is not NULL, gets one for each question, by its number. */
-typedef void solver(const callbacks *c, const task *t, result *r, size_t *asked);
-solver library_inner, library_loop, library_psi, library_d_psi;
-solver old_inner, old_loop, old_psi, old_d_psi;
+typedef void run_by(const callbacks *c, const task *t, result *r, size_t *asked);
+run_by library_inner, library_loop, library_psi, library_d_psi;
+run_by old_inner, old_loop, old_psi, old_d_psi;
 
 /* The same through the original Rust. A cache is made once and used for many solves, as its authors advise. */
 void *rust_inner_new(const task *t);
 void *rust_loop_new(const task *t);
-typedef void rust_solver(void *cache, const callbacks *c, const task *t, result *r);
-rust_solver rust_inner, rust_loop, rust_psi, rust_d_psi;
+typedef void run_by_rust(void *cache, const callbacks *c, const task *t, result *r);
+run_by_rust rust_inner, rust_loop, rust_psi, rust_d_psi;
 
 /* Time. */
 double now_ns(void);

@@ -11,14 +11,14 @@ enum { QUESTIONS = PKR_NO_QUESTION, INNER = 0, LOOP, PSI, D_PSI, KINDS };
 static const callbacks *volatile chosen = &quadratic;
 
 /* The sides, by kind of run. */
-static solver *const library[KINDS] = {library_inner, library_loop, library_psi, library_d_psi};
+static run_by *const library[KINDS] = {library_inner, library_loop, library_psi, library_d_psi};
 #ifdef HAVE_OLD
-static solver *const old[KINDS] = {old_inner, old_loop, old_psi, old_d_psi};
+static run_by *const old[KINDS] = {old_inner, old_loop, old_psi, old_d_psi};
 #endif
 #ifdef HAVE_RUST
-static rust_solver *const rust[KINDS] = {rust_inner, rust_loop, rust_psi, rust_d_psi};
-#endif
+static run_by_rust *const rust[KINDS] = {rust_inner, rust_loop, rust_psi, rust_d_psi};
 static void *cache;
+#endif
 
 static void by_library(int kind, const callbacks *c, const task *t, result *r) { library[kind](c, t, r, NULL); }
 #ifdef HAVE_OLD
