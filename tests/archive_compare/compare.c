@@ -203,7 +203,7 @@ static void play(size_t tame) {
       x = answered(q, first, second, v);
     }
     if (below(tame) == 0) x = below(2) ? wild() : 10 * real();
-    if (below(tame) == 0) v[below(set.n ? set.n : 1) % 64] = below(2) ? wild() : 10 * real();
+    if (below(tame) == 0) v[below(wanted(q) + 1) % 64] = below(2) ? wild() : 10 * real();
     uint32_t of = q == COST || q == LAST_COST ? NUMBER : q == TIME || q == OUTER_TIME ? (below(6) ? YES : NO) : VECTOR;
     if (below(25) == 0) of = (uint32_t)below(7);
     if (of == FAILURE && below(4)) of = VECTOR;
