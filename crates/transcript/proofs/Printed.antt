@@ -36,7 +36,8 @@ use Rattle.panoc_engine.specs.declared.panoc_cache.Phase.TheVariants as P
 use Rattle.panoc_engine.specs.Told.{refusal_number, number_in}
 use Rattle.panoc_engine.specs.Values.{phase_of}
 use Rattle.panoc_engine.specs.Runs.{run_of}
-use Rattle.panoc_optimizer.specs.Calls.{shows, first_places, second_places}
+use Rattle.panoc_engine.specs.Places.{first_places, second_places}
+use Rattle.panoc_optimizer.specs.Calls.{shows}
 use Rattle.alm_engine.specs.declared.alm_cache.Alm.{Alm}
 use Rattle.alm_engine.specs.declared.alm_cache.AlmPhase.{AlmPhase}
 use Rattle.alm_engine.specs.declared.alm_cache.AlmPhase.TheVariants as A

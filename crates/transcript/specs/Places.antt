@@ -3,7 +3,7 @@ use Rattle.std.specs.Prelude.{ℕ}
 use Rattle.model.specs.Refusals.{xi_length}
 use Rattle.panoc_engine.specs.declared.panoc_cache.Phase.{Phase}
 use Rattle.panoc_engine.specs.declared.panoc_cache.Phase.TheVariants as P
-use Rattle.panoc_optimizer.specs.Calls.{first_places}
+use Rattle.panoc_engine.specs.Places.{first_places}
 use Rattle.alm_engine.specs.declared.alm_cache.Alm.{Alm}
 use Rattle.alm_engine.specs.declared.alm_cache.AlmSettings.{AlmSettings}
 use Rattle.alm_engine.specs.declared.alm_cache.AlmPhase.{AlmPhase}

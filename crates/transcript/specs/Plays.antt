@@ -15,7 +15,8 @@ use Rattle.alm_engine.specs.LoopRuns.{loop_run}
 use Rattle.alm_factory.specs.Runs.{psi_of, d_psi_of}
 use Rattle.panoc_engine.specs.declared.panoc_cache.Settings.{Settings}
 use Rattle.panoc_engine.specs.Values.{settings_of, reply_of}
-use Rattle.panoc_optimizer.specs.Calls.{blank, no_places}
+use Rattle.panoc_engine.specs.Blank.{blank}
+use Rattle.panoc_optimizer.specs.Calls.{no_places}
 use Rattle.alm_engine.specs.declared.alm_cache.AlmSettings.{AlmSettings}
 use Rattle.alm_engine.specs.Values.{loop_settings_of}
 use Rattle.alm_optimizer.specs.Calls.{loop_blank}

@@ -2,7 +2,8 @@
 ghost use Rattle.std.specs.Prelude.{◌≡◌};
 ghost use Rattle.panoc_engine.specs.Values.{asked_of, numbers_of};
 ghost use Rattle.panoc_engine.specs.Runs.{run_of};
-ghost use Rattle.panoc_optimizer.specs.Calls.{gave, first_places, second_places};
+ghost use Rattle.panoc_engine.specs.Places.{first_places, second_places};
+ghost use Rattle.panoc_optimizer.specs.Calls.{gave};
 ghost use Rattle.transcript.specs.Texts.{inner_asked, inner_ended, inner_line};
 
 use crate::names::{name, then};

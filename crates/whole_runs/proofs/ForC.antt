@@ -12,7 +12,7 @@ use Rattle.machine.proofs.InnerAnswers as InnerLaw
 use Rattle.panoc_engine.specs.declared.panoc_cache.Settings.{Settings}
 use Rattle.panoc_engine.specs.Values.{settings_of}
 use Rattle.panoc_engine.specs.Runs.{run_of}
-use Rattle.panoc_optimizer.specs.Calls.{blank}
+use Rattle.panoc_engine.specs.Blank.{blank}
 use Rattle.panoc_fields.specs.declared.fields.InnerC.{InnerC}
 use Rattle.panoc_fields.specs.Fields.{Seen, run_at, refusal_at, answer_at, Leaves}
 use Rattle.claim.specs.History.{AnswersAny, History}

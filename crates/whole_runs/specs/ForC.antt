@@ -5,7 +5,7 @@ use Rattle.machine.specs.InnerAnswer.{start}
 use Rattle.panoc_engine.specs.declared.panoc_cache.Settings.{Settings}
 use Rattle.panoc_engine.specs.Values.{settings_of}
 use Rattle.panoc_engine.specs.Runs.{run_of}
-use Rattle.panoc_optimizer.specs.Calls.{blank}
+use Rattle.panoc_engine.specs.Blank.{blank}
 use Rattle.panoc_fields.specs.declared.fields.InnerC.{InnerC}
 use Rattle.panoc_fields.specs.Fields.{run_at, answer_at, seen, exact, Leaves}
 use Rattle.model.specs.Loop.{LoopSettings}
