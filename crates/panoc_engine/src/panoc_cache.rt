@@ -82,17 +82,18 @@ pub enum Phase {
     LastCost,
 }
 
-// The small part of a run. norm_h: the norm of the shift of the Lipschitz estimate; forget: what DIRECTION says.
+// The small part of a run. forget: what DIRECTION says, beside the phase, since a flag last puts the board of a run by value onto odd places; norm_h: the norm of the shift of
+// the Lipschitz estimate.
 #[derive(Clone, Copy)]
 pub struct Solve {
     pub phase: Phase,
+    pub forget: bool,
     pub set: Settings,
     pub cost_value: f64,
     pub gammas: Gammas,
     pub norms: Norms,
     pub norm_h: f64,
     pub counts: Counts,
-    pub forget: bool,
 }
 
 // A question of the inner solve. DIRECTION says whether to forget.
