@@ -19,7 +19,7 @@ const MOST: usize = 310;
 // The point of a question that has one.
 fn point(run: Run) -> Result<[f64; 3]> {
     let mut first = [0.0; 3];
-    points(run, &mut first, &mut []).map_err(refused)?;
+    points(&run, &mut first, &mut []).map_err(refused)?;
     Ok(first)
 }
 
@@ -27,7 +27,7 @@ fn point(run: Run) -> Result<[f64; 3]> {
 fn residual_and_u(run: Run) -> Result<([f64; 3], [f64; 3])> {
     let mut residual = [0.0; 3];
     let mut u = [0.0; 3];
-    points(run, &mut residual, &mut u).map_err(refused)?;
+    points(&run, &mut residual, &mut u).map_err(refused)?;
     Ok((residual, u))
 }
 

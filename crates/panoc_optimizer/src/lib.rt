@@ -150,8 +150,8 @@ pub fn points_in_place(
 }
 
 // Those of a run by value.
-pub fn points(run: Run, first: &mut [f64], second: &mut [f64]) -> Result<(), Refusal>
-    ensures { shows result first.new second.new ≡ points (run_of run.solve run.board) first.old second.old }
+pub fn points(run: &Run, first: &mut [f64], second: &mut [f64]) -> Result<(), Refusal>
+    ensures { shows result first.new second.new ≡ points (run_of run.now.solve run.now.board) first.old second.old }
 {
     points_in_place(run.solve, &run.board, first, second)
 }

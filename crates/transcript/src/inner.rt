@@ -56,7 +56,7 @@ fn put_asked(question: Question, run: Run) -> Line
     let mut q = places();
     let first = &mut p[..n];
     let second = &mut q[..m];
-    let done = points(run, first, second);
+    let done = points(&run, first, second);
     shown(done, name(question), first, then(question), second)
 }
 

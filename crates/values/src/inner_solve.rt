@@ -50,5 +50,6 @@ pub extern "C" fn values_inner_points(
 ) -> u32
     ensures { shown result first.new second.new ≡ points (inner_begun task.now u.now).run first.old second.old }
 {
-    number_in(points(start(task.inner_settings(), u).run, first, second))
+    let begun = start(task.inner_settings(), u);
+    number_in(points(&begun.run, first, second))
 }
