@@ -16,7 +16,7 @@ use Rattle.claim.specs.Psi.{psi_runs, PsiClaim, d_psi_runs, DPsiClaim}
 use Rattle.claim.specs.ForC.{CallC, Meet, ClaimC}
 use Rattle.claim.proofs.ForC.{Sound, claim_for_c}
 use Rattle.claim.proofs.PsiProof.{psi_claim, d_psi_claim}
-use Rattle.claim.proofs.Played.{psi_met, Own, begun_owns, d_psi_met, d_psi_owns}
+use Rattle.claim.proofs.Meets.{psi_met, Own, begun_owns, d_psi_met, d_psi_owns}
 use Rattle.alm_factory_c.specs.declared.psi.PsiC.{PsiC}
 use Rattle.alm_factory_c.specs.declared.d_psi.DPsiC.{DPsiC}
 use Rattle.alm_factory_c.specs.Fields.{psi_of, psi_refusal_of, PsiLeaves, PsiBegins, d_psi_of, d_psi_refusal_of, DPsiLeaves, DPsiBegins}

@@ -25,7 +25,7 @@ use Rattle.claim.specs.Kept.{Same, kept_call, kept_calls, last_state}
 use Rattle.claim.proofs.InnerProof.{inner_claim}
 use Rattle.claim.proofs.LoopProof.{loop_claim}
 use Rattle.claim.proofs.PsiProof.{psi_claim, d_psi_claim}
-use Rattle.claim.proofs.Played.{inner_meets, loop_meets, psi_meets, Own, begun_owns, d_psi_meets, d_psi_owns}
+use Rattle.claim.proofs.Meets.{inner_meets, loop_meets, psi_meets, Own, begun_owns, d_psi_meets, d_psi_owns}
 
 -- Mine is what the machine asks of its runs and keeps
 module _ {Q H : Type 0} {k : Runs Q H} {m : Machine} (same : Same k m) (kept : Keeping m) (Mine : m.Run → Type 0)

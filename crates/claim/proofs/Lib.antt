@@ -5,6 +5,6 @@ pub mod Chosen
 pub mod InnerProof
 pub mod LoopProof
 pub mod PsiProof
-pub mod Played
+pub mod Meets
 pub mod ForC
 pub mod Kept

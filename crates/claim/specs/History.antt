@@ -14,6 +14,11 @@ hands_back (ended e) = true
 hands_back (refused m) = false
 hands_back (failed c) = false
 
+-- An answer: what is handed over (none: an answer of a kind of no name, which C can give), and the vector lent with it.
+pub record Answer : Type 0 where
+  pub reply : Option Reply
+  pub vector : List Float
+
 -- A kind of run: the contract of its answer, and what the contract speaks of.
 pub record Runs (Q H : Type 0) : Type 1 where
   pub Run : Type 0

@@ -7,6 +7,5 @@ pub mod Left
 pub mod Follow
 pub mod Loop
 pub mod Psi
-pub mod Played
 pub mod ForC
 pub mod Kept

@@ -11,7 +11,7 @@ use Rattle.panoc_engine.specs.Told.{telling}
 use Rattle.panoc_engine.specs.Values.{reply_of}
 use Rattle.claim.specs.History.{Runs, Call, AnswersAny, begun, more}
 use Rattle.claim.specs.Claim.{Over}
-use Rattle.claim.specs.Played as P
+use Rattle.claim.specs.History as P
 use Rattle.whole_runs.specs.declared.answers.Answer.{Answer}
 use Rattle.whole_runs.specs.Feed.{answers, Fed}
 use Rattle.whole_runs.specs.Whole.{Ran}

@@ -20,7 +20,7 @@ use Rattle.claim.specs.Inner.{inner_runs, InnerClaim}
 use Rattle.claim.specs.ForC.{CallC, Meet, ClaimC}
 use Rattle.claim.proofs.ForC.{Sound, claim_for_c}
 use Rattle.claim.proofs.InnerProof.{inner_claim}
-use Rattle.claim.proofs.Played.{inner_met}
+use Rattle.claim.proofs.Meets.{inner_met}
 use Rattle.whole_runs.specs.ForC.{inner_c, Begun}
 
 -- where the table refuses, the machine leaves the run as it was

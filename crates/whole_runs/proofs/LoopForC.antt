@@ -20,7 +20,7 @@ use Rattle.claim.specs.Loop.{loop_runs, LoopClaim}
 use Rattle.claim.specs.ForC.{CallC, Meet, ClaimC}
 use Rattle.claim.proofs.ForC.{Sound, claim_for_c}
 use Rattle.claim.proofs.LoopProof.{loop_claim}
-use Rattle.claim.proofs.Played.{loop_met}
+use Rattle.claim.proofs.Meets.{loop_met}
 use Rattle.whole_runs.specs.ForC.{loop_c, LoopBegun}
 
 -- where the table refuses, the machine leaves the run as it was

@@ -12,9 +12,9 @@ use Rattle.machine.specs.LoopCalls.{Starts}
 use Rattle.machine.proofs.LoopAnswers as LoopLaw
 use Rattle.claim.specs.History.{AnswersAny}
 use Rattle.claim.specs.Loop.{loop_runs}
-use Rattle.claim.specs.Played as P
+use Rattle.claim.specs.History as P
 use Rattle.claim.proofs.LoopProof.{loop_claim, loop_no_run}
-use Rattle.claim.proofs.Played.{loop_met, start_asks}
+use Rattle.claim.proofs.Meets.{loop_met, start_asks}
 use Rattle.whole_runs.specs.Feed.{Fed}
 use Rattle.whole_runs.specs.Whole.{LoopSolves}
 use Rattle.whole_runs.proofs.Feeds.{ran_refused, ran_fed}

@@ -9,9 +9,9 @@ use Rattle.machine.specs.PsiRun.{Asked, PsiRun, PsiLeft, DPsiRun, DPsiLeft}
 use Rattle.machine.specs.PsiCalls.{PsiStarts, DPsiStarts, psi_answer, psi_answer_any, d_psi_answer, d_psi_answer_any, handed_out}
 use Rattle.claim.specs.History.{AnswersAny}
 use Rattle.claim.specs.Psi.{psi_runs, d_psi_runs}
-use Rattle.claim.specs.Played as P
+use Rattle.claim.specs.History as P
 use Rattle.claim.proofs.PsiProof.{psi_claim, psi_no_run, d_psi_claim, d_psi_no_run}
-use Rattle.claim.proofs.Played.{psi_met, Own, begun_owns, d_psi_met, d_psi_owns}
+use Rattle.claim.proofs.Meets.{psi_met, Own, begun_owns, d_psi_met, d_psi_owns}
 use Rattle.whole_runs.specs.Feed.{Fed}
 use Rattle.whole_runs.specs.Whole.{Psi, DPsi}
 use Rattle.whole_runs.proofs.Feeds.{ran_refused, ran_fed}

@@ -11,9 +11,9 @@ use Rattle.machine.specs.InnerCalls.{Starts}
 use Rattle.machine.proofs.InnerAnswers as InnerLaw
 use Rattle.claim.specs.History.{AnswersAny}
 use Rattle.claim.specs.Inner.{inner_runs}
-use Rattle.claim.specs.Played as P
+use Rattle.claim.specs.History as P
 use Rattle.claim.proofs.InnerProof.{inner_claim, inner_no_run}
-use Rattle.claim.proofs.Played.{inner_met}
+use Rattle.claim.proofs.Meets.{inner_met}
 use Rattle.whole_runs.specs.Feed.{Fed}
 use Rattle.whole_runs.specs.Whole.{Solves}
 use Rattle.whole_runs.proofs.Feeds.{ran_refused, ran_fed}

@@ -3,7 +3,7 @@ use Rattle.std.specs.Prelude.{◌≡◌, List, [], ◌∷◌, Float, take, drop}
 use Rattle.std.proofs.Math.Option.{some}
 use Rattle.panoc_engine.specs.Values.{reply_of}
 use Rattle.claim.specs.History.{Runs, Call, History}
-use Rattle.claim.specs.Played as P
+use Rattle.claim.specs.History as P
 use Rattle.whole_runs.specs.declared.answers.Answer.{Answer}
 
 -- what the lent list says: each answer with as many of the next floats as it names, as far as they go

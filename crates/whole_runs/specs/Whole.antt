@@ -14,7 +14,7 @@ use Rattle.machine.specs.PsiRun.{PsiLeft, DPsiLeft}
 use Rattle.machine.specs.PsiCalls.{PsiStarts, DPsiStarts}
 use Rattle.claim.specs.History.{Runs, Call}
 use Rattle.claim.specs.Claim.{Over}
-use Rattle.claim.specs.Played.{Answer}
+use Rattle.claim.specs.History.{Answer}
 use Rattle.claim.specs.Inner.{inner_runs, InnerClaim}
 use Rattle.claim.specs.Loop.{loop_runs, LoopClaim}
 use Rattle.claim.specs.Psi.{psi_runs, PsiClaim, d_psi_runs, DPsiClaim}

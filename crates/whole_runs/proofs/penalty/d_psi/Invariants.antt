@@ -2,7 +2,7 @@
 use Rattle.std.specs.Prelude.{drop}
 use Rattle.std.specs.Float.{binary64}
 use Rattle.claim.specs.Psi.{d_psi_runs}
-use Rattle.claim.proofs.Played.{Own}
+use Rattle.claim.proofs.Meets.{Own}
 use Rattle.alm_factory.specs.Runs.{d_psi_gave}
 use Rattle.whole_runs.specs.Feed.{answers, Fed}
 use Rattle.whole_runs.proofs.penalty.d_psi.Given as goal

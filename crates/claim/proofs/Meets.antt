@@ -1,18 +1,16 @@
--- The claim holds for every list of answers, whatever they are, that is played on a machine from an accepted start. Assumes nothing.
-use Rattle.std.specs.Prelude.{ℕ, zero, suc, ◌≡◌, refl, Bool, true, false, cond, List, [], ◌∷◌, ◌++◌, eqb, Float, length}
+-- What a machine's answer gives meets the contract of its kind of run, and so does a call that leaves the same; what an accepted start asks, and what d_psi keeps. Assumes nothing.
+use Rattle.std.specs.Prelude.{ℕ, zero, suc, ◌≡◌, refl, Bool, true, false, cond, List, eqb, Float, length}
 use Rattle.std.proofs.Common.{ap, sym, subst, ◌∙◌}
 use Rattle.std.proofs.Math.Option.{Option, none, some}
 use Rattle.std.proofs.lemmas.List.{length-replicate}
 use Rattle.std.specs.Float.{Format}
 use Rattle.model.specs.Vectors.{plus_over}
 use Rattle.model.proofs.Facts.{zip_size}
-use Rattle.model.specs.State.{Settings}
 use Rattle.model.specs.Loop.{LoopSettings}
 use Rattle.model.specs.Psi.{Sizes}
-use Rattle.model.specs.Refusals.{Reply, answer_refusal, inner_refusal, loop_refusal, psi_refusal}
+use Rattle.model.specs.Refusals.{Reply, answer_refusal, loop_refusal, psi_refusal}
 use Rattle.machine.specs.Told as Say
 use Rattle.machine.specs.Told.{saying}
-use Rattle.machine.specs.Keeping.{Input}
 use Rattle.machine.specs.InnerRun as Inner
 use Rattle.machine.specs.InnerAnswer as InnerAnswer
 use Rattle.machine.specs.LoopRun as Loop
@@ -21,42 +19,14 @@ use Rattle.machine.specs.LoopMoves.{begins, iteration, inner_solve}
 use Rattle.machine.specs.Numbers.{table_number}
 use Rattle.machine.specs.PsiRun.{PsiRun, PsiLeft, DPsiPhase, DPsiRun, DPsiLeft}
 use Rattle.machine.specs.PsiMoves.{d_psi_ask_f2, d_psi_got_gradient, d_psi_got_f1, d_psi_got_projection, d_psi_got_jf1t, d_psi_got_f2, d_psi_got_jf2t, d_psi_move}
-use Rattle.machine.specs.PsiCalls.{DPsiStarts, psi_begun, psi_answer_any, d_psi_begun, d_psi_kind_at, ruled, d_psi_refuses, handed_out, d_psi_answer, d_psi_answer_any}
-use Rattle.machine.specs.Machines.{Places, psi_start, d_psi_start}
+use Rattle.machine.specs.PsiCalls.{DPsiStarts, psi_answer_any, d_psi_kind_at, ruled, d_psi_refuses, handed_out, d_psi_answer, d_psi_answer_any}
 use Rattle.machine.proofs.InnerAnswers as InnerLaw
 use Rattle.machine.proofs.LoopAnswers as LoopLaw
 use Rattle.machine.proofs.PsiLaws as PsiLaw
-use Rattle.machine.proofs.MachineLaws as MachineLaw
-use Rattle.claim.specs.History.{Runs, Call, Meets, AnswersAny, History, begun, more}
-use Rattle.claim.specs.Inner.{inner_runs, InnerClaim}
-use Rattle.claim.specs.Loop.{loop_runs, LoopClaim}
-use Rattle.claim.specs.Psi.{psi_runs, PsiClaim, d_psi_runs, DPsiClaim}
-use Rattle.claim.specs.Played.{Answer, Stand, next, stand_after, inputs, played, after, inner_call, loop_call, psi_call, d_psi_call}
-use Rattle.claim.proofs.InnerProof.{inner_claim}
-use Rattle.claim.proofs.LoopProof.{loop_claim}
-use Rattle.claim.proofs.PsiProof.{psi_claim, d_psi_claim}
-
--- what is played is a list of calls, each on the run that the call before it returned; Own is what the machine asks of its runs and keeps
-module _ {Q H : Type 0} {k : Runs Q H} (call : k.Run → Input k.Lent → Call k) (Own : k.Run → Type 0) (meets : (r : k.Run) (i : Input k.Lent) → Own r → Meets k r (call r i))
-    (owns : (r : k.Run) (i : Input k.Lent) → Own r → Own (call r i).run) where
-  pub plays : (r t : k.Run) (cs : List (Call k)) (is : List (Input k.Lent)) → Own t → History k r cs t → History k r (played call t is cs) (after call t is)
-  unfolding played after
-  plays r t cs [] own h = h
-  plays r t cs (i ∷ is) own h = plays r (call t i).run (call t i ∷ cs) is (owns t i own) (more h (call t i) (meets t i own))
-
--- the lent places handed on
-module _ {Q H : Type 0} {k : Runs Q H} (call : k.Run → Input k.Lent → Call k) where
-  -- the inputs lead to the same run
-  pub inputs_after : (x : Stand k) (xs : List Answer) → after call x.run (inputs call x xs) ≡ (stand_after call x xs).run
-  unfolding after inputs stand_after
-  inputs_after x [] = refl
-  inputs_after x (a ∷ xs) = inputs_after (next call x a) xs
-
-  -- one answer more, and none: for a loop over a list
-  pub stand_more : (x : Stand k) (xs : List Answer) (a : Answer) → stand_after call x (xs ++ (a ∷ [])) ≡ next call (stand_after call x xs) a
-  unfolding stand_after
-  stand_more x [] a = refl
-  stand_more x (b ∷ xs) a = stand_more (next call x b) xs a
+use Rattle.claim.specs.History.{AnswersAny}
+use Rattle.claim.specs.Inner.{inner_runs}
+use Rattle.claim.specs.Loop.{loop_runs}
+use Rattle.claim.specs.Psi.{psi_runs, d_psi_runs}
 
 module _ (f : Format) where
   -- ---- an inner solve: the machine's answer meets the contract
@@ -68,22 +38,6 @@ module _ (f : Format) where
   -- so does a call that leaves what the machine's does
   pub inner_met : (r : Inner.Run) (a : Option Reply) (v us ws : List Float) (l : Inner.Left) → l ≡ InnerAnswer.answer_any f r a v us → ws ≡ InnerAnswer.plan_after l us → AnswersAny (inner_runs f) r a v us ws l.told l.run
   inner_met r a v us ws l e w = rw (w, e) (inner_meets r a v us)
-
-  -- r₀ is what the places held before the start
-  pub inner_played : (s : Settings) (u : List Float) (r₀ : Inner.Run) → inner_refusal s u ≡ 0 → (is : List (Input (List Float)))
-      → let r = InnerAnswer.begun s u r₀ in InnerClaim f s u r (played (inner_call f) r is []) (after (inner_call f) r is)
-  unfolding InnerAnswer.start
-  inner_played s u r₀ z is =
-      let r = InnerAnswer.begun s u r₀ in
-      let a : Inner.Left = record { told = Say.Told.asked Inner.Asked.cost; run = r } in
-      inner_claim f s u a (rw z at (InnerLaw.starts f s u r₀)) refl (plays (inner_call f) (λ t. Unit {0}) (λ t i o. inner_meets t i.reply i.vector i.lent) (λ t i o. tt) r r [] is tt begun)
-
-  -- the lent u, us at first, being handed on
-  pub inner_fed : (s : Settings) (u us : List Float) (r₀ : Inner.Run) → inner_refusal s u ≡ 0 → (xs : List Answer)
-      → let x : Stand (inner_runs f) = record { run = InnerAnswer.begun s u r₀; lent = us } in InnerClaim f s u x.run (played (inner_call f) x.run (inputs (inner_call f) x xs) []) (stand_after (inner_call f) x xs).run
-  inner_fed s u us r₀ z xs =
-      let x : Stand (inner_runs f) = record { run = InnerAnswer.begun s u r₀; lent = us } in
-      subst (InnerClaim f s u x.run (played (inner_call f) x.run (inputs (inner_call f) x xs) [])) (inputs_after (inner_call f) x xs) (inner_played s u r₀ z (inputs (inner_call f) x xs))
 
   -- ---- the loop
   pub loop_meets : (r : Loop.Run) (a : Option Reply) (v us xs : List Float) → let l = LoopAnswer.answer_any f r a v us xs in
@@ -109,19 +63,6 @@ module _ (f : Format) where
   unfolding LoopAnswer.start
   start_asks s u xi r z = rw z (begins_asks (LoopAnswer.begun s u xi r))
 
-  pub loop_played : (s : LoopSettings) (u xi : List Float) (r₀ : Loop.Run) → loop_refusal f s u xi ≡ 0 → (is : List (Input Places))
-      → let r = (LoopAnswer.start f s u xi r₀).run in LoopClaim f s u xi r (played (loop_call f) r is []) (after (loop_call f) r is)
-  loop_played s u xi r₀ z is =
-      let a = LoopAnswer.start f s u xi r₀ in
-      loop_claim f s u xi a (LoopLaw.starts f s u xi r₀) (start_asks s u xi r₀ z) (plays (loop_call f) (λ t. Unit {0}) (λ t i o. loop_meets t i.reply i.vector i.lent.u i.lent.xi) (λ t i o. tt) a.run a.run [] is tt begun)
-
-  pub loop_fed : (s : LoopSettings) (u xi : List Float) (lent : Places) (r₀ : Loop.Run) → loop_refusal f s u xi ≡ 0 → (xs : List Answer)
-      → let x : Stand (loop_runs f) = record { run = (LoopAnswer.start f s u xi r₀).run; lent = lent } in
-      LoopClaim f s u xi x.run (played (loop_call f) x.run (inputs (loop_call f) x xs) []) (stand_after (loop_call f) x xs).run
-  loop_fed s u xi lent r₀ z xs =
-      let x : Stand (loop_runs f) = record { run = (LoopAnswer.start f s u xi r₀).run; lent = lent } in
-      subst (LoopClaim f s u xi x.run (played (loop_call f) x.run (inputs (loop_call f) x xs) [])) (inputs_after (loop_call f) x xs) (loop_played s u xi r₀ z (inputs (loop_call f) x xs))
-
   -- ---- psi
   pub psi_meets : (r : PsiRun) (a : Option Reply) (v : List Float) → let l = psi_answer_any f a v r in AnswersAny (psi_runs f) r a v tt tt l.told l.run
   unfolding saying psi_answer_any
@@ -130,19 +71,6 @@ module _ (f : Format) where
 
   pub psi_met : (r : PsiRun) (a : Option Reply) (v : List Float) (l : PsiLeft) → l ≡ psi_answer_any f a v r → AnswersAny (psi_runs f) r a v tt tt l.told l.run
   psi_met r a v l e = rw e (psi_meets r a v)
-
-  pub psi_played : (s : Sizes) (u xi : List Float) (r₀ : PsiRun) → psi_refusal s (length u) (length xi) ≡ 0 → (is : List (Input (Unit {0})))
-      → let r = (psi_begun s u xi r₀.beyond).run in PsiClaim f s u xi r (played (psi_call f) r is []) (after (psi_call f) r is)
-  unfolding psi_start
-  psi_played s u xi r₀ z is =
-      let a : PsiLeft = psi_begun s u xi r₀.beyond in
-      psi_claim f s u xi a (rw z at (MachineLaw.psi_starts s u xi r₀)) refl (plays (psi_call f) (λ t. Unit {0}) (λ t i o. psi_meets t i.reply i.vector) (λ t i o. tt) a.run a.run [] is tt begun)
-
-  pub psi_fed : (s : Sizes) (u xi : List Float) (r₀ : PsiRun) → psi_refusal s (length u) (length xi) ≡ 0 → (xs : List Answer)
-      → let x : Stand (psi_runs f) = record { run = (psi_begun s u xi r₀.beyond).run; lent = tt } in PsiClaim f s u xi x.run (played (psi_call f) x.run (inputs (psi_call f) x xs) []) (stand_after (psi_call f) x xs).run
-  psi_fed s u xi r₀ z xs =
-      let x : Stand (psi_runs f) = record { run = (psi_begun s u xi r₀.beyond).run; lent = tt } in
-      subst (PsiClaim f s u xi x.run (played (psi_call f) x.run (inputs (psi_call f) x xs) [])) (inputs_after (psi_call f) x xs) (psi_played s u xi r₀ z (inputs (psi_call f) x xs))
 
   -- ---- d_psi: y and t have the n1 places of F1
   abbrev pub Own : DPsiRun → Type 0
@@ -207,17 +135,3 @@ module _ (f : Format) where
 
   pub d_psi_met : (r : DPsiRun) (a : Option Reply) (v us ws : List Float) (l : DPsiLeft) → Own r → l ≡ d_psi_answer_any f a v us r → ws ≡ handed_out l us → AnswersAny (d_psi_runs f) r a v us ws l.told l.run
   d_psi_met r a v us ws l o e w = rw (w, e) (d_psi_meets r a v us o)
-
-  pub d_psi_played : (s : Sizes) (u xi : List Float) (r₀ : DPsiRun) → psi_refusal s (length u) (length xi) ≡ 0 → (is : List (Input (List Float)))
-      → let r = (d_psi_begun s u xi r₀.beyond).run in DPsiClaim f s u xi r (played (d_psi_call f) r is []) (after (d_psi_call f) r is)
-  unfolding d_psi_start
-  d_psi_played s u xi r₀ z is =
-      let a : DPsiLeft = d_psi_begun s u xi r₀.beyond in
-      d_psi_claim f s u xi a (rw z at (MachineLaw.d_psi_starts s u xi r₀)) refl
-      (plays (d_psi_call f) Own (λ t i o. d_psi_meets t i.reply i.vector i.lent o) (λ t i o. d_psi_owns t i.reply i.vector i.lent o) a.run a.run [] is ((PsiLaw.started s (length u) xi z).multipliers, length-replicate _ _) begun)
-
-  pub d_psi_fed : (s : Sizes) (u xi us : List Float) (r₀ : DPsiRun) → psi_refusal s (length u) (length xi) ≡ 0 → (xs : List Answer)
-      → let x : Stand (d_psi_runs f) = record { run = (d_psi_begun s u xi r₀.beyond).run; lent = us } in DPsiClaim f s u xi x.run (played (d_psi_call f) x.run (inputs (d_psi_call f) x xs) []) (stand_after (d_psi_call f) x xs).run
-  d_psi_fed s u xi us r₀ z xs =
-      let x : Stand (d_psi_runs f) = record { run = (d_psi_begun s u xi r₀.beyond).run; lent = us } in
-      subst (DPsiClaim f s u xi x.run (played (d_psi_call f) x.run (inputs (d_psi_call f) x xs) [])) (inputs_after (d_psi_call f) x xs) (d_psi_played s u xi r₀ z (inputs (d_psi_call f) x xs))
