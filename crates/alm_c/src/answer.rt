@@ -8,8 +8,8 @@ use alm_fields::fields::AlmC;
 use panoc_engine::refusals::refusal;
 use panoc_fields::numbers::{number_of_no_kind, reply_at};
 
-// An answer to the question of a run, by its kind: 0 the number x, 1 the vector v, 2 yes, 3 no, 4 the failure code; a plan, and the penalty with the multipliers, go into the lent slices.
-// 6 to 8 where it is refused: then nothing is written; 9 for a failure.
+// An answer to the question of a run, by its kind: 0 the number x, 1 the vector v, 2 yes, 3 no, 4 the failure code; a plan, and the penalty with the
+// multipliers, go into the lent slices. 6 to 8 where it is refused: then nothing is written; 9 for a failure.
 #[unsafe(no_mangle)]
 pub extern "C" fn pozkerrin_loop_answer(
     run: &mut AlmC,

@@ -16,7 +16,8 @@ use panoc_engine::panoc_cache::ExitStatus;
 use panoc_fields::fields::InnerFields;
 use panoc_fields::numbers::{flag_number, status_number};
 
-// What a start is given: n, n1 and n2; whether a set Y is given; M and K; whether TIME is asked; the tolerances, the factors and the decrease coefficient. A flag is yes unless it is 0.
+// What a start is given: n, n1 and n2; whether a set Y is given; M and K; whether TIME is asked; the tolerances, the factors and the decrease coefficient. A
+// flag is yes unless it is 0.
 #[repr(C)]
 pub struct LoopSettings {
     pub n: usize,

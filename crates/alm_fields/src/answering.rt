@@ -1,5 +1,6 @@
-// An answer that nothing refuses, put into the fields of a run and into its board. At a question of the inner solve its handlers run on its fields and its nine vectors; what the loop keeps is read only once
-// that has ended. Each arm of the loop's own takes the small part of the run out of the fields and puts what is changed back.
+// An answer that nothing refuses, put into the fields of a run and into its board. At a question of the inner solve its handlers run on its fields and its
+// nine vectors; what the loop keeps is read only once that has ended. Each arm of the loop's own takes the small part of the run out of the fields and puts
+// what is changed back.
 ghost use Rattle.std.specs.Prelude.{ℕ, ◌≡◌, ◌≤◌, List, Float, length};
 ghost use Rattle.machine.specs.InnerRun as M;
 ghost use Rattle.panoc_engine.specs.declared.panoc_cache.Reply.TheVariants.{Number, Vector, Failure};

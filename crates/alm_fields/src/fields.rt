@@ -21,9 +21,9 @@ pub struct AlmEnd {
     pub cost: f64,
 }
 
-// Which question the loop waits for; the end of the last inner solve, or the one that is handed back; whether TIME is asked, and whether a set Y is given; n, n1 and n2; M and K; how
-// many outer iterations may still begin, how many outer and inner ones there were, and those of the last solve; the tolerances, the factors and the decrease coefficient; the running
-// numbers; and the numbers of an end.
+// Which question the loop waits for; the end of the last inner solve, or the one that is handed back; whether TIME is asked, and whether a set Y is given;
+// n, n1 and n2; M and K; how many outer iterations may still begin, how many outer and inner ones there were, and those of the last solve; the tolerances,
+// the factors and the decrease coefficient; the running numbers; and the numbers of an end.
 #[repr(C)]
 pub struct AlmFields {
     pub phase: u32,
@@ -50,8 +50,8 @@ pub struct AlmFields {
     pub end: AlmEnd,
 }
 
-// A run of the loop: the fields of its inner solve, its own, and its vectors, 64 places each, those of the inner solve first. What the last call that wrote has told stands in
-// inner.outcome and inner.told.
+// A run of the loop: the fields of its inner solve, its own, and its vectors, 64 places each, those of the inner solve first. What the last call that wrote
+// has told stands in inner.outcome and inner.told.
 #[repr(C)]
 pub struct AlmC {
     pub inner: InnerFields,

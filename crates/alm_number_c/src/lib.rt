@@ -13,7 +13,8 @@ use alm_fields::fields::AlmC;
 use panoc_engine::panoc_cache::Reply;
 use panoc_engine::refusals::refusal;
 
-// The number x for the question of a run; a plan, and the penalty with the multipliers, go into the lent slices. 6 to 8 where it is refused: then nothing is written.
+// The number x for the question of a run; a plan, and the penalty with the multipliers, go into the lent slices. 6 to 8 where it is refused: then nothing is
+// written.
 #[unsafe(no_mangle)]
 pub extern "C" fn pozkerrin_loop_number(
     run: &mut AlmC,

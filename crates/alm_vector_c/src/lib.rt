@@ -12,7 +12,8 @@ use alm_fields::fields::AlmC;
 use panoc_engine::panoc_cache::Reply;
 use panoc_engine::refusals::refusal;
 
-// The vector v for the question of a run; the plan's slice is as long as u, and xi's has the penalty and the multipliers. 6 to 8 where it is refused: then nothing is written.
+// The vector v for the question of a run; the plan's slice is as long as u, and xi's has the penalty and the multipliers. 6 to 8 where it is refused: then
+// nothing is written.
 #[unsafe(no_mangle)]
 pub extern "C" fn pozkerrin_loop_vector(
     run: &mut AlmC,

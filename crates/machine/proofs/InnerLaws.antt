@@ -95,7 +95,7 @@ module _ (f : Format) where
   either s b true p q l m c d = c
   either s b false p q l m c d = d
 
-  -- ---- the half step held to a lipschitz_check_rhs that is kept
+  -- ---- the half step held to a right side of the Lipschitz check that is kept
   doubling_kept : (s : Settings) (e : Status) (next : I.Next) (k : ℕ) (forget : Bool) (st : State) (c : Float)
       → doubling_at f s e next k forget (I.lipschitz_check_rhs f st) st c ≡ I.doubling f s k e next forget st c
   unfolding doubling_at I.doubling

@@ -21,7 +21,7 @@ abbrev pub Sound : Run → Type 0
 Sound r = sound r ≡ true
 
 module _ (f : Format) where
-  -- what follows the cost c at the half step where that is held to a number v that is kept; it is the model's where v is the lipschitz_check_rhs
+  -- what follows the cost c at the half step where that is held to a number v that is kept; it is the model's where v is its right side of the Lipschitz check
   module _ (s : Settings) (e : Status) (next : I.Next) where
     -- k doublings more
     unfoldable pub doubling_at : ℕ → Bool → Float → State → Float → Solve

@@ -212,7 +212,7 @@ module _ (f : Format) (s : Settings) where
   unfoldable pub timed : ℕ → Next → Iterate → Bool → Solve
   timed l next i inTime = step (standing l inTime) next i
 
-  -- "Between steps TIME is asked if a limit is set": at most l steps more, and the next one is step_counted
+  -- "Between steps TIME is asked if a limit is set": at most l steps more, and the next one is counted
   unfoldable pub laps : ℕ → Iterate → Solve
   laps zero i = finish not_converged_iterations i
   laps (suc l) i = cond s.limited (ask time decision (timed l (laps l) (step_counted i))) (timed l (laps l) (step_counted i) true)

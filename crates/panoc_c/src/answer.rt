@@ -9,8 +9,8 @@ use panoc_fields::calls::hand_out;
 use panoc_fields::fields::{InnerC, solve_of};
 use panoc_fields::numbers::{number_of_no_kind, reply_at};
 
-// An answer to the question of a run, by its kind: 0 the number x, 1 the vector v, 2 yes, 3 no, 4 the failure code; a plan goes into the lent slice. 6 to 8 where it is refused:
-// then nothing is written; 9 for a failure.
+// An answer to the question of a run, by its kind: 0 the number x, 1 the vector v, 2 yes, 3 no, 4 the failure code; a plan goes into the lent slice. 6 to 8
+// where it is refused: then nothing is written; 9 for a failure.
 #[tactic(auto, using(panoc_fields::proofs::CallLaws::leaves_refused))]
 #[unsafe(no_mangle)]
 pub extern "C" fn pozkerrin_inner_answer(

@@ -21,7 +21,8 @@ pub extern "C" fn pozkerrin_inner_points(run: &InnerC, first: &mut [f64], second
     number_in(done)
 }
 
-// The number of the vector in whose first places the first point of the question lies; the second point of DIRECTION lies in vector 0. Vector 0 too where no question stands.
+// The number of the vector in whose first places the first point of the question lies; the second point of DIRECTION lies in vector 0. Vector 0 too where no
+// question stands.
 #[tactic(auto, using(panoc_fields::proofs::PlaceLaws::lies))]
 #[unsafe(no_mangle)]
 pub extern "C" fn pozkerrin_inner_place(run: &InnerC) -> u32

@@ -26,7 +26,7 @@ module _ (s : Solve) (l : List Float) where
   unfolding run_of leaves Move.ask_direction
   direction_asked σ e = rw e refl
 
-  -- no round is left, or the cost does not exceed its lipschitz_check_rhs
+  -- no round is left, or the cost does not exceed the right side of its check
   pub doubling_none : (k : ℕ) (x : Float) → k ≡ 0 → Move.doubling binary64 k x (run_of s l) ≡ Move.ask_direction binary64 (run_of s l)
   unfolding Move.doubling
   doubling_none k x e = rw e refl

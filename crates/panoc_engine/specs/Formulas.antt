@@ -6,7 +6,7 @@ use Rattle.ieee.specs.Numbers.{absolute}
 use Rattle.model.specs.Constants.{gamma_l_coeff, lipschitz_update_epsilon, half, two}
 
 module _ (f : Format) where
-  -- the lipschitz_check_rhs, of a cost, γ, the residual's norm x and its product z with the gradient
+  -- the right side of the Lipschitz check, of a cost, γ, the residual's norm x and its product z with the gradient
   unfoldable pub lipschitz_check_rhs_of : Float → Float → Float → Float → Float
   lipschitz_check_rhs_of c γ x z =
       add f (sub f (add f c (mul f (lipschitz_update_epsilon f) (absolute c))) z) (mul f (mul f (div f (gamma_l_coeff f) (mul f (two f) γ)) x) x)

@@ -30,7 +30,7 @@ fn ask_direction(s: Solve, board: &[f64]) -> Doubled
     }
 }
 
-// The doubling: another round while the half step's cost exceeds its lipschitz_check_rhs, else DIRECTION.
+// The doubling: another round while the half step's cost exceeds the right side of its check, else DIRECTION.
 #[tactic(auto, using(crate::proofs::Doubles::doubling_none, crate::proofs::Doubles::doubling_stays, crate::proofs::Doubles::doubling_goes))]
 pub fn update_lipschitz_constant(cost: f64, s: Solve, board: &mut [f64]) -> Doubled
     requires { Stands s board.old }

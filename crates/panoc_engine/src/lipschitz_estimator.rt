@@ -30,7 +30,7 @@ pub fn lipschitz_check_rhs(cost: f64, gamma: f64, norm: f64, product: f64) -> f6
     cost + 1e-6 * numeric::abs(cost) - product + (0.95 / (2.0 * gamma)) * norm * norm
 }
 
-// Whether L is to be doubled: the half step's cost exceeds its lipschitz_check_rhs, and L is below 1e9.
+// Whether L is to be doubled: the half step's cost exceeds the right side of its check, and L is below 1e9.
 #[tactic(auto, using(crate::proofs::Formulas::exceeds_is))]
 pub fn exceeds(lipschitz_check_rhs: f64, lipschitz: f64, cost: f64) -> bool
     ensures { result ≡ (lt lipschitz_check_rhs cost && lt lipschitz (max_lipschitz_constant binary64)) }

@@ -82,8 +82,8 @@ pub enum Phase {
     LastCost,
 }
 
-// The small part of a run. forget: what DIRECTION says, beside the phase, since a flag last puts the board of a run by value onto odd places; norm_h: the norm of the shift of
-// the Lipschitz estimate.
+// The small part of a run. forget: what DIRECTION says, beside the phase, since a flag last puts the board of a run by value onto odd places; norm_h: the
+// norm of the shift of the Lipschitz estimate.
 #[derive(Clone, Copy)]
 pub struct Solve {
     pub phase: Phase,

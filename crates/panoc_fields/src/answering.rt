@@ -1,4 +1,5 @@
-// An answer that nothing refuses, put into the fields of a run and into its board: each arm takes the small part of the run out of the fields and puts what is changed back.
+// An answer that nothing refuses, put into the fields of a run and into its board: each arm takes the small part of the run out of the fields and puts what
+// is changed back.
 ghost use Rattle.std.specs.Prelude.{◌≡◌, ◌≤◌, true, List, Float, length};
 ghost use Rattle.std.specs.Float.{binary64};
 ghost use Rattle.model.specs.Refusals.{answer_refusal};

@@ -14,9 +14,9 @@ pub struct InnerEnd {
     pub cost_value: f64,
 }
 
-// Which question a run waits for; what the last call that wrote has told, by its kind and a number beside it; the end that stands for the present step; what DIRECTION says;
-// whether TIME is asked, and whether an AKKT tolerance is set; n and M; how many steps may still begin and how many are done, how many doublings or candidates may follow; the
-// tolerances; the cost, the numbers of the steps, the norm of the shift; and the numbers of an end.
+// Which question a run waits for; what the last call that wrote has told, by its kind and a number beside it; the end that stands for the present step; what
+// DIRECTION says; whether TIME is asked, and whether an AKKT tolerance is set; n and M; how many steps may still begin and how many are done, how many
+// doublings or candidates may follow; the tolerances; the cost, the numbers of the steps, the norm of the shift; and the numbers of an end.
 #[repr(C)]
 pub struct InnerFields {
     pub phase: u32,

@@ -32,7 +32,8 @@ fn feed(
     last
 }
 
-// A run that begins at u and xi and is given the answers: the kind of what the last call told; the plan, and the penalty with the multipliers, where the run has ended.
+// A run that begins at u and xi and is given the answers: the kind of what the last call told; the plan, and the penalty with the multipliers, where the run
+// has ended.
 #[unsafe(no_mangle)]
 pub extern "C" fn values_loop(
     task: &Task,
