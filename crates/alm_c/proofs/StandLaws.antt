@@ -22,9 +22,9 @@ carried xi none = refl
 carried xi (some q) = refl
 
 module _ (s : Alm) (l : List Float) (t : Bool) (z : t ≡ sound (loop_run s l)) where
-  pub stands_wild : t ≡ false → 14 ≡ loop_standing (loop_run s l)
+  pub stands_unsound : t ≡ false → 14 ≡ loop_standing (loop_run s l)
   unfolding question_of
-  stands_wild f = let h = sym z ∙ f in rw h refl
+  stands_unsound f = let h = sym z ∙ f in rw h refl
 
   module _ (f : t ≡ true) where
     at : (k : AlmPhase) → k ≡ s.phase → standing loop_number (question_at (loop_run s l) (loop_phase_of k)) ≡ loop_standing (loop_run s l)

@@ -8,7 +8,7 @@ use Rattle.board.proofs.Writes.{length_vector}
 use Rattle.board.proofs.Loops.{vector_none}
 use Rattle.machine.specs.PsiRest.{sound, psi_resume, d_psi_resume, psi_rest, d_psi_rest}
 use Rattle.machine.specs.PsiCalls.{first_point, second_point, Placed, Points}
-use Rattle.machine.proofs.PsiLaws.{sound_n, sound_n1, sound_n2, placed_not_first, placed_not_second, points_at, points_none, rest_wild, rest_over}
+use Rattle.machine.proofs.PsiLaws.{sound_n, sound_n1, sound_n2, placed_not_first, placed_not_second, points_at, points_none, rest_unsound, rest_over}
 use Rattle.alm_factory.specs.declared.records.Psi.{Psi}
 use Rattle.alm_factory.specs.declared.records.PsiPhase.{PsiPhase}
 use Rattle.alm_factory.specs.declared.records.PsiPhase.TheVariants as P
@@ -58,7 +58,7 @@ over_points s l xs ys e = points_none _ xs ys (rest_over (psi_resume binary64) (
 
 pub unsound_points : (s : Psi) (l xs ys : List Float) → sound (sizes_of s.sizes) ≡ false → Points (psi_rest binary64 (psi_run s l)) xs xs ys ys 6
 unfolding psi_run
-unsound_points s l xs ys h = points_none _ xs ys (rest_wild (psi_resume binary64) (psi_run s l) h)
+unsound_points s l xs ys h = points_none _ xs ys (rest_unsound (psi_resume binary64) (psi_run s l) h)
 
 -- ---- d_psi
 module _ (s : DPsi) (l xs xs' ys ys' : List Float) (k : ℕ) (h : sound (sizes_of s.sizes) ≡ true) where
@@ -96,10 +96,10 @@ pub d_over_points : (s : DPsi) (l xs ys : List Float) → s.phase ≡ D.Over →
 unfolding d_psi_run d_psi_resume
 d_over_points s l xs ys e = points_none _ xs ys (rest_over (d_psi_resume binary64) (d_psi_run s l) (ap (λ (z : DPsiPhase). d_psi_resume binary64 (d_psi_run s l) (d_psi_phase_of z)) e))
 
-pub d_wild_points : (s : DPsi) (l xs ys : List Float) → sound (sizes_of s.sizes) ≡ false → Points (d_psi_rest binary64 (d_psi_run s l)) xs xs ys ys 6
+pub d_unsound_points : (s : DPsi) (l xs ys : List Float) → sound (sizes_of s.sizes) ≡ false → Points (d_psi_rest binary64 (d_psi_run s l)) xs xs ys ys 6
 unfolding d_psi_run
-d_wild_points s l xs ys h = points_none _ xs ys (rest_wild (d_psi_resume binary64) (d_psi_run s l) h)
+d_unsound_points s l xs ys h = points_none _ xs ys (rest_unsound (d_psi_resume binary64) (d_psi_run s l) h)
 
 pub ruleset psi_points = (sound_n, sound_n1, over_points, unsound_points)
 
-pub ruleset d_psi_points = (sound_n, sound_n1, sound_n2, d_over_points, d_wild_points)
+pub ruleset d_psi_points = (sound_n, sound_n1, sound_n2, d_over_points, d_unsound_points)

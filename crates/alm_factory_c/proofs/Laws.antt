@@ -30,7 +30,7 @@ use Rattle.alm_factory.specs.Runs.{psi_run, psi_left, d_psi_run, d_psi_left}
 use Rattle.panoc_engine.proofs.Numbers.{refusal_some}
 use Rattle.alm_factory.proofs.PsiLaws as PsiLaws
 use Rattle.alm_factory.proofs.DPsiLaws as DPsiLaws
-use Rattle.panoc_fields.proofs.CallLaws.{strange_some}
+use Rattle.panoc_fields.proofs.CallLaws.{of_no_kind_some}
 use Rattle.alm_factory_c.specs.declared.psi.PsiC.{PsiC}
 use Rattle.alm_factory_c.specs.declared.d_psi.DPsiC.{DPsiC}
 use Rattle.alm_factory_c.specs.Fields.{psi_phases, psi_at, d_psi_phases, d_psi_at, psi_small, psi_put, PsiKept, PsiLeaves, PsiBegins, psi_refusal_of, d_psi_small, d_psi_put, DPsiKept, DPsiLeaves, DPsiBegins, d_psi_refusal_of}
@@ -79,11 +79,11 @@ module _ (was : PsiC) (a : Option Reply) (v : List Float) (w : Option Kind) (s :
   e : w ≡ waits psi_kind_at (sizes_of (psi_small was).sizes) (psi_phase_of (psi_small was).phase)
   e = d ∙ ap (λ (t : Psi). waits psi_kind_at (sizes_of t.sizes) (psi_phase_of t.phase)) i
 
-  pub psi_strange : (number : ℕ) → none ≡ a → number ≡ of_no_kind w → PsiLeaves a v was was number
+  pub psi_of_no_kind : (number : ℕ) → none ≡ a → number ≡ of_no_kind w → PsiLeaves a v was was number
   unfolding any_refusal
-  psi_strange number q z =
+  psi_of_no_kind number q z =
       subst (λ (o : Option Reply). PsiLeaves o v was was number) q
-      (record { refused = λ k t. (z ∙ ap of_no_kind e ∙ t, refl); accepted = λ t. absurd (strange_some _ t) })
+      (record { refused = λ k t. (z ∙ ap of_no_kind e ∙ t, refl); accepted = λ t. absurd (of_no_kind_some _ t) })
 
   pub psi_refused : (b : Reply) (f : Refusal) → some b ≡ a → refusal_number f ≡ answer_refusal w b (length v) true → PsiLeaves a v was was (refusal_number f)
   unfolding any_refusal
@@ -131,11 +131,11 @@ d_psi_kept was is s m b number e k =
     })
 
 module _ (was : DPsiC) (a : Option Reply) (v us : List Float) (w : Option Kind) (e : w ≡ waits d_psi_kind_at (sizes_of (d_psi_small was).sizes) (d_psi_phase_of (d_psi_small was).phase)) where
-  pub d_psi_strange : (number : ℕ) → none ≡ a → number ≡ of_no_kind w → DPsiLeaves a v us us was was number
+  pub d_psi_of_no_kind : (number : ℕ) → none ≡ a → number ≡ of_no_kind w → DPsiLeaves a v us us was was number
   unfolding any_refusal
-  d_psi_strange number q z =
+  d_psi_of_no_kind number q z =
       subst (λ (o : Option Reply). DPsiLeaves o v us us was was number) q
-      (record { refused = λ k t. (z ∙ ap of_no_kind e ∙ t, refl, refl); accepted = λ t. absurd (strange_some _ t) })
+      (record { refused = λ k t. (z ∙ ap of_no_kind e ∙ t, refl, refl); accepted = λ t. absurd (of_no_kind_some _ t) })
 
   pub d_psi_refused : (b : Reply) (f : Refusal) → some b ≡ a → refusal_number f ≡ answer_refusal w b (length v) (eqb (length us) was.n) → DPsiLeaves a v us us was was (refusal_number f)
   unfolding any_refusal

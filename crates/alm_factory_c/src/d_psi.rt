@@ -112,7 +112,7 @@ pub extern "C" fn pozkerrin_d_psi_start(
 }
 
 // An answer to the question of a run, by its kind, as for psi; the result goes into res at the end only.
-#[tactic(auto, using(crate::proofs::Laws::d_psi_strange, crate::proofs::Laws::d_psi_refused, crate::proofs::Laws::d_psi_accepts, crate::proofs::Laws::d_psi_goes))]
+#[tactic(auto, using(crate::proofs::Laws::d_psi_of_no_kind, crate::proofs::Laws::d_psi_refused, crate::proofs::Laws::d_psi_accepts, crate::proofs::Laws::d_psi_goes))]
 #[unsafe(no_mangle)]
 pub extern "C" fn pozkerrin_d_psi_answer(
     run: &mut DPsiC,

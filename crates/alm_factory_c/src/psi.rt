@@ -118,7 +118,7 @@ pub extern "C" fn pozkerrin_psi_start(
 
 // An answer to the question of a run, by its kind: 0 the number x, 1 the vector v, 2 yes, 3 no, 4 the failure code. 6 to 8 where it is refused: then nothing is
 // written; 9 for a failure.
-#[tactic(auto, using(crate::proofs::Laws::psi_strange, crate::proofs::Laws::psi_refused, crate::proofs::Laws::psi_goes))]
+#[tactic(auto, using(crate::proofs::Laws::psi_of_no_kind, crate::proofs::Laws::psi_refused, crate::proofs::Laws::psi_goes))]
 #[unsafe(no_mangle)]
 pub extern "C" fn pozkerrin_psi_answer(
     run: &mut PsiC,

@@ -14,7 +14,7 @@ use Rattle.panoc_engine.specs.declared.outcome.Refusal.{Refusal}
 use Rattle.panoc_engine.specs.Told.{refusal_number}
 use Rattle.panoc_engine.specs.Values.{reply_of}
 use Rattle.panoc_engine.proofs.Numbers.{refusal_some}
-use Rattle.panoc_fields.proofs.CallLaws.{strange_some, handed_as}
+use Rattle.panoc_fields.proofs.CallLaws.{of_no_kind_some, handed_as}
 use Rattle.alm_engine.specs.Values.{loop_settings_of}
 use Rattle.alm_engine.specs.LoopRuns.{loop_run}
 use Rattle.alm_optimizer.specs.Calls.{xi_filled}
@@ -28,11 +28,11 @@ module _ (was : AlmC) (v us xs : List Float) (w : Option Kind) (d : (l : List Fl
   e = d was.board
 
   -- a refused answer
-  pub leaves_strange : (o : Option Reply) (number : ℕ) → none ≡ o → number ≡ of_no_kind w → Leaves o v us us xs xs was was number
+  pub leaves_of_no_kind : (o : Option Reply) (number : ℕ) → none ≡ o → number ≡ of_no_kind w → Leaves o v us us xs xs was was number
   unfolding any_refusal
-  leaves_strange o number q z =
+  leaves_of_no_kind o number q z =
       subst (λ (o : Option Reply). Leaves o v us us xs xs was was number) q
-      (record { refused = λ k t. (z ∙ ap of_no_kind e ∙ t, refl, refl, refl); accepted = λ t. absurd (strange_some _ t) })
+      (record { refused = λ k t. (z ∙ ap of_no_kind e ∙ t, refl, refl, refl); accepted = λ t. absurd (of_no_kind_some _ t) })
 
   module _ (a : C.Reply) (o : Option Reply) (q : some (reply_of a) ≡ o) where
     refusal_is : answer_refusal w (reply_of a) (length v) t ≡ refusal_at was (some (reply_of a)) (length v) (length us) (length xs)

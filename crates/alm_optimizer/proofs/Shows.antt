@@ -101,9 +101,9 @@ inner_room s c P.LastCost a b = (omega arith, a, b)
 
 -- ---- of the question of a run
 module _ (s : Alm) (t : Bool) (e : (l : List Float) → t ≡ sound (loop_run s l)) where
-  pub places_wild : t ≡ false → (l : List Float) → pair_of (Answer.question_of (loop_run s l)) ≡ none
+  pub places_unsound : t ≡ false → (l : List Float) → pair_of (Answer.question_of (loop_run s l)) ≡ none
   unfolding Answer.question_of
-  places_wild q l = let x = sym (e l) ∙ q in rw x refl
+  places_unsound q l = let x = sym (e l) ∙ q in rw x refl
 
   module _ (q : t ≡ true) where
     size_n : s.set.n ≤ 64
@@ -147,7 +147,7 @@ module _ (s : Alm) (t : Bool) (e : (l : List Float) → t ≡ sound (loop_run s 
           → pair_of (Answer.question_of (loop_run s l)) ≡ lying s.set o l
       places_inner f o d p = ap pair_of (carried true (sym f)) ∙ inner_lying s l p size_n s.solve.phase ∙ ap (λ (x : Std.Option Located). lying s.set x l) (sym d)
 
-pub ruleset places = (places_wild, places_own, room_own, room_inner, places_spent, places_inner)
+pub ruleset places = (places_unsound, places_own, room_own, room_inner, places_spent, places_inner)
 
 -- ---- the points copied
 shown_by : (o : Option LoopQuestion) (xs ys : List Float) → shown first_point second_point o xs ys

@@ -12,7 +12,7 @@ use Rattle.model.proofs.Carry.{at_most_ended}
 use Rattle.model.specs.Refusing.{Refuses}
 use Rattle.machine.specs.Waits.{of_no_kind, any_refusal}
 use Rattle.claim.specs.History.{Runs, Call, Meets, History, begun, more}
-use Rattle.claim.specs.Trace.{reply_of, refusal, leads_to, comes_to, left, trace, six_to_eight, turned_down, accepted, total_weight}
+use Rattle.claim.specs.Trace.{reply_of, refusal, leads_to, comes_to, remaining, trace, six_to_eight, turned_down, accepted, total_weight}
 use Rattle.claim.specs.Claim.{Each, latest_run, Over, Follows}
 use Rattle.claim.specs.Lawful.{refused_by, ComesTo, Gives, nothing, back, Lawful}
 use Rattle.claim.proofs.Lawful.{refuses, accepts, gives_kept, refused_hands}
@@ -96,7 +96,7 @@ each_each F G go (c ∷ cs) e = (go c cs e.0, each_each F G go cs e.1)
 module _ {Q H : Type 0} (k : Runs Q H) (law : Lawful k) (s : k.Settings) (p : Process Q H) (P : ℕ → Type 0) (beyond : (m : ℕ) → P m → 9 ≤ m) (good : Refuses P p) where
   module _ (cs : List (Call k)) (t : k.Run) (a : After k s p cs t) (c : Call k) (meets : Meets k t c) where
     abbrev now : Process Q H
-    now = left k s p cs
+    now = remaining k s p cs
 
     here : refusal k (k.settings t) (k.rest t) c ≡ refusal k s now c
     here = ap (λ (z : k.Settings). refusal k z (k.rest t) c) a.settings ∙ ap (λ (z : Process Q H). refusal k s z c) a.rest
@@ -199,9 +199,9 @@ module _ {Q H : Type 0} (k : Runs Q H) (law : Lawful k) (s : k.Settings) (p : Pr
     each_back w R x t h = each_one _ (λ cs u c e o. hand cs u c o) h
       where
         hand : (cs : List (Call k)) (u : k.Run) (c : Call k) → One k s p cs u c → k.hands c.outcome ≡ true → Back k s p w R x c cs
-        hand cs u c o y = by (law.gives s (comes_to k s (left k s p cs) c))
+        hand cs u c o y = by (law.gives s (comes_to k s (remaining k s p cs) c))
           where
-            by : Gives k s (comes_to k s (left k s p cs) c) → Back k s p w R x c cs
+            by : Gives k s (comes_to k s (remaining k s p cs) c) → Back k s p w R x c cs
             by (nothing a b) = absurd (true≢false (sym y ∙ ap k.hands o.says ∙ a))
             by (back z a b d) = record { what = z; outcome = o.says ∙ b; wrote = o.writes ∙ d c.lent; holds = handed_left k s p w R x t c cs z a }
 
@@ -216,8 +216,8 @@ module _ {Q H : Type 0} (k : Runs Q H) (law : Lawful k) (s : k.Settings) (p : Pr
             kept = each_one _ (λ ds u c e o. o.kept) h;
             counted = counted h;
             bound = omega (arith, counted h, held.0);
-            ended = λ e. over k law t (ap wanted (follow h).rest ∙ at_most_ended (left k s p cs) (subst (AtMost (λ q. 1) (left k s p cs)) (omega (arith, counted h, e)) held.1));
+            ended = λ e. over k law t (ap wanted (follow h).rest ∙ at_most_ended (remaining k s p cs) (subst (AtMost (λ q. 1) (remaining k s p cs)) (omega (arith, counted h, e)) held.1));
           }
         where
-          held : (total_weight (λ q. 1) (trace k s p cs) ≤ b) × AtMost (λ q. 1) (left k s p cs) (b - total_weight (λ q. 1) (trace k s p cs))
+          held : (total_weight (λ q. 1) (trace k s p cs) ≤ b) × AtMost (λ q. 1) (remaining k s p cs) (b - total_weight (λ q. 1) (trace k s p cs))
           held = within_left k s p (λ q. 1) b most cs

@@ -24,7 +24,7 @@ use Rattle.machine.specs.InnerRun.{Numbers, Run, Left}
 use Rattle.machine.specs.InnerRest.{said, asked_of, end_said}
 use Rattle.machine.specs.InnerCalls.{Starts, asking}
 use Rattle.claim.specs.History.{Call, History}
-use Rattle.claim.specs.Trace.{total_weight, left}
+use Rattle.claim.specs.Trace.{total_weight, remaining}
 use Rattle.claim.specs.Claim.{Over, scores}
 use Rattle.claim.specs.Lawful.{Gives, nothing, back, Lawful}
 use Rattle.claim.proofs.Lawful.{gives_as, begins, numbered}
@@ -90,7 +90,7 @@ module _ (f : Format) (s : Settings) (u : List Float) where
     same_start = begins (inner_runs f) (lawful f) _ (solve f s u) a.told begins_at.outcome taken
 
     first : After (inner_runs f) s (solve f s u) [] a.run
-    unfolding left
+    unfolding remaining
     first = record { settings = begins_at.settings; rest = begins_at.process ∙ ap remains same_start }
 
     ends : Ends (SolvePlan s) [] (solve f s u)

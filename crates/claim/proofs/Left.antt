@@ -19,7 +19,7 @@ use Rattle.model.specs.Refusing.{Refuses, Awaits}
 use Rattle.model.proofs.Refusing.{refuses_remains, awaits_accept}
 use Rattle.machine.specs.Waits.{of_no_kind, any_refusal}
 use Rattle.claim.specs.History.{Runs, Call}
-use Rattle.claim.specs.Trace.{reply_of, refusal, leads_to, comes_to, where_accepted, left, Event, answered, scored, began, passed, taken, trace, watched, total_weight}
+use Rattle.claim.specs.Trace.{reply_of, refusal, leads_to, comes_to, where_accepted, remaining, Event, answered, scored, began, passed, taken, trace, watched, total_weight}
 use Rattle.claim.specs.Claim.{latest, ScoresRight}
 use Rattle.claim.specs.Left.{AllRight}
 
@@ -35,18 +35,18 @@ named w (some a) vs lent e = e
 module _ {Q H : Type 0} (k : Runs Q H) (s : k.Settings) (p : Process Q H) where
   module _ (c : Call k) (cs : List (Call k)) where
     abbrev q : Process Q H
-    q = left k s p cs
+    q = remaining k s p cs
 
     -- the events before its marks
     abbrev events : List (Event Q)
     events = taken q (reply_of c.reply) c.vector (trace k s p cs)
 
-    pub left_accepted : refusal k s q c ≡ 0 → left k s p (c ∷ cs) ≡ remains (leads_to k q c)
-    unfolding left where_accepted
+    pub left_accepted : refusal k s q c ≡ 0 → remaining k s p (c ∷ cs) ≡ remains (leads_to k q c)
+    unfolding remaining where_accepted
     left_accepted e = rw e
 
-    pub left_refused : (m : ℕ) → refusal k s q c ≡ suc m → left k s p (c ∷ cs) ≡ q
-    unfolding left where_accepted
+    pub left_refused : (m : ℕ) → refusal k s q c ≡ suc m → remaining k s p (c ∷ cs) ≡ q
+    unfolding remaining where_accepted
     left_refused m e = rw e
 
     pub trace_accepted : refusal k s q c ≡ 0 → trace k s p (c ∷ cs) ≡ passed (leads_to k q c) events
@@ -133,44 +133,44 @@ module _ {Q H : Type 0} (k : Runs Q H) (s : k.Settings) (p : Process Q H) where
     seen_remains : (es : List (Event Q)) (q : Process Q H) → Seen es q → Seen (passed q es) (remains q)
     seen_remains es q t = subst (λ (y : S). Along w P y (remains q)) (past_watched w x q es) (along_remains w P (watched w x es) q t)
 
-    pub seen_left : Along w P x p → (cs : List (Call k)) → Seen (trace k s p cs) (left k s p cs)
-    unfolding left trace watched
+    pub seen_left : Along w P x p → (cs : List (Call k)) → Seen (trace k s p cs) (remaining k s p cs)
+    unfolding remaining trace watched
     seen_left t [] = seen_remains [] p t
-    seen_left t (c ∷ cs) = by (seen_left t cs) (refusal k s (left k s p cs) c) refl
+    seen_left t (c ∷ cs) = by (seen_left t cs) (refusal k s (remaining k s p cs) c) refl
       where
-        by : Seen (trace k s p cs) (left k s p cs) → (m : ℕ) → refusal k s (left k s p cs) c ≡ m → Seen (trace k s p (c ∷ cs)) (left k s p (c ∷ cs))
+        by : Seen (trace k s p cs) (remaining k s p cs) → (m : ℕ) → refusal k s (remaining k s p cs) c ≡ m → Seen (trace k s p (c ∷ cs)) (remaining k s p (c ∷ cs))
         by ih zero e =
             rw (left_accepted k s p c cs e, trace_accepted k s p c cs e)
-            (seen_remains _ (leads_to k (left k s p cs) c) (seen_accepted c (trace k s p cs) (left k s p cs) ih e))
+            (seen_remains _ (leads_to k (remaining k s p cs) c) (seen_accepted c (trace k s p cs) (remaining k s p cs) ih e))
         by ih (suc m) e = rw (left_refused k s p c cs m e, trace_refused k s p c cs m e) ih
 
     -- each score was right
     pub right_left : Along w P x p → (cs : List (Call k)) → AllRight w x (trace k s p cs)
     unfolding trace watched
     right_left t [] = marks_right w x p [] (along_marks w P x p t) tt
-    right_left t (c ∷ cs) = by (right_left t cs) (refusal k s (left k s p cs) c) refl
+    right_left t (c ∷ cs) = by (right_left t cs) (refusal k s (remaining k s p cs) c) refl
       where
-        by : AllRight w x (trace k s p cs) → (m : ℕ) → refusal k s (left k s p cs) c ≡ m → AllRight w x (trace k s p (c ∷ cs))
+        by : AllRight w x (trace k s p cs) → (m : ℕ) → refusal k s (remaining k s p cs) c ≡ m → AllRight w x (trace k s p (c ∷ cs))
         by ih zero e =
             rw (trace_accepted k s p c cs e)
-            (marks_right w x (leads_to k (left k s p cs) c) _
-            (along_marks w P _ (leads_to k (left k s p cs) c) (seen_accepted c (trace k s p cs) (left k s p cs) (seen_left t cs) e))
-            (taken_right w x (left k s p cs) (reply_of c.reply) c.vector (trace k s p cs) ih))
+            (marks_right w x (leads_to k (remaining k s p cs) c) _
+            (along_marks w P _ (leads_to k (remaining k s p cs) c) (seen_accepted c (trace k s p cs) (remaining k s p cs) (seen_left t cs) e))
+            (taken_right w x (remaining k s p cs) (reply_of c.reply) c.vector (trace k s p cs) ih))
         by ih (suc m) e = rw (trace_refused k s p c cs m e) ih
 
     -- where a call hands h back, P holds of h and of all that happened
-    pub handed_left : Along w P x p → (c : Call k) (cs : List (Call k)) (h : H) → end_of (comes_to k s (left k s p cs) c) ≡ some (handed h) → P (watched w x (trace k s p (c ∷ cs))) h
+    pub handed_left : Along w P x p → (c : Call k) (cs : List (Call k)) (h : H) → end_of (comes_to k s (remaining k s p cs) c) ≡ some (handed h) → P (watched w x (trace k s p (c ∷ cs))) h
     unfolding comes_to or_refused end_of
-    handed_left t c cs h z = by (refusal k s (left k s p cs) c) refl
+    handed_left t c cs h z = by (refusal k s (remaining k s p cs) c) refl
       where
         never : (m : ℕ) → some (refused (suc m)) ≡ some (handed h) → ⊥
         never m y = let o : ◌≡◌ {A = ℕ} 0 1 = cc in absurd (omega arith)
 
-        by : (m : ℕ) → refusal k s (left k s p cs) c ≡ m → P (watched w x (trace k s p (c ∷ cs))) h
+        by : (m : ℕ) → refusal k s (remaining k s p cs) c ≡ m → P (watched w x (trace k s p (c ∷ cs))) h
         by zero e =
             rw (trace_accepted k s p c cs e)
-            (subst (λ (y : S). P y h) (past_watched w x (leads_to k (left k s p cs) c) _)
-            (along_handed w P _ (leads_to k (left k s p cs) c) h (seen_accepted c (trace k s p cs) (left k s p cs) (seen_left t cs) e)
+            (subst (λ (y : S). P y h) (past_watched w x (leads_to k (remaining k s p cs) c) _)
+            (along_handed w P _ (leads_to k (remaining k s p cs) c) h (seen_accepted c (trace k s p cs) (remaining k s p cs) (seen_left t cs) e)
             (rw e at z)))
         by (suc m) e = absurd (never m (rw e at z))
 
@@ -193,15 +193,15 @@ module _ {Q H : Type 0} (k : Runs Q H) (s : k.Settings) (p : Process Q H) where
     within_remains : (es : List (Event Q)) (q : Process Q H) → Within es q → Within (passed q es) (remains q)
     within_remains es q t = rw (total_weight_passed w q es) (t.0, at_most_remains w q _ t.1)
 
-    pub within_left : AtMost w p b → (cs : List (Call k)) → Within (trace k s p cs) (left k s p cs)
-    unfolding left trace total_weight
+    pub within_left : AtMost w p b → (cs : List (Call k)) → Within (trace k s p cs) (remaining k s p cs)
+    unfolding remaining trace total_weight
     within_left t [] = within_remains [] p (omega arith, at_most_more w p b _ (omega arith) t)
-    within_left t (c ∷ cs) = by (within_left t cs) (refusal k s (left k s p cs) c) refl
+    within_left t (c ∷ cs) = by (within_left t cs) (refusal k s (remaining k s p cs) c) refl
       where
-        by : Within (trace k s p cs) (left k s p cs) → (m : ℕ) → refusal k s (left k s p cs) c ≡ m → Within (trace k s p (c ∷ cs)) (left k s p (c ∷ cs))
+        by : Within (trace k s p cs) (remaining k s p cs) → (m : ℕ) → refusal k s (remaining k s p cs) c ≡ m → Within (trace k s p (c ∷ cs)) (remaining k s p (c ∷ cs))
         by ih zero e =
             rw (left_accepted k s p c cs e, trace_accepted k s p c cs e)
-            (within_remains _ (leads_to k (left k s p cs) c) (within_accepted c (trace k s p cs) (left k s p cs) ih e))
+            (within_remains _ (leads_to k (remaining k s p cs) c) (within_accepted c (trace k s p cs) (remaining k s p cs) ih e))
         by ih (suc m) e = rw (left_refused k s p c cs m e, trace_refused k s p c cs m e) ih
 
   -- ---- the numbers by which it may end
@@ -210,11 +210,11 @@ module _ {Q H : Type 0} (k : Runs Q H) (s : k.Settings) (p : Process Q H) where
     unfolding refusal leads_to
     awaits_accepted c q t e = awaits_accept P q (reply_of c.reply) c.vector (k.right s c.lent) t (named _ _ _ _ e)
 
-    pub awaits_left : Refuses P p → (cs : List (Call k)) → Awaits P (left k s p cs)
-    unfolding left
+    pub awaits_left : Refuses P p → (cs : List (Call k)) → Awaits P (remaining k s p cs)
+    unfolding remaining
     awaits_left t [] = refuses_remains P p t
-    awaits_left t (c ∷ cs) = by (awaits_left t cs) (refusal k s (left k s p cs) c) refl
+    awaits_left t (c ∷ cs) = by (awaits_left t cs) (refusal k s (remaining k s p cs) c) refl
       where
-        by : Awaits P (left k s p cs) → (m : ℕ) → refusal k s (left k s p cs) c ≡ m → Awaits P (left k s p (c ∷ cs))
-        by ih zero e = rw (left_accepted k s p c cs e) (refuses_remains P (leads_to k (left k s p cs) c) (awaits_accepted c (left k s p cs) ih e))
+        by : Awaits P (remaining k s p cs) → (m : ℕ) → refusal k s (remaining k s p cs) c ≡ m → Awaits P (remaining k s p (c ∷ cs))
+        by ih zero e = rw (left_accepted k s p c cs e) (refuses_remains P (leads_to k (remaining k s p cs) c) (awaits_accepted c (remaining k s p cs) ih e))
         by ih (suc m) e = rw (left_refused k s p c cs m e) ih

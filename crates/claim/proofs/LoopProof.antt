@@ -27,7 +27,7 @@ use Rattle.machine.specs.LoopRest.{said, asked_of, end_said}
 use Rattle.machine.specs.LoopCalls.{Starts}
 use Rattle.machine.specs.Machines.{Places}
 use Rattle.claim.specs.History.{Runs, Call, History}
-use Rattle.claim.specs.Trace.{left, Event}
+use Rattle.claim.specs.Trace.{remaining, Event}
 use Rattle.claim.specs.Claim.{Over, scores, tally}
 use Rattle.claim.specs.Loop.{loop_of, LoopHands, LoopClaim, loop_runs, trace_of}
 use Rattle.claim.specs.Lawful.{Gives, nothing, back, Lawful}
@@ -119,7 +119,7 @@ module _ (f : Format) (s : LoopSettings) (u xi : List Float) where
     same_start = begins runs (lawful f) _ p a.told begins_at.outcome taken
 
     first : After runs s p [] a.run
-    unfolding left
+    unfolding remaining
     first = record { settings = begins_at.settings; rest = begins_at.process ∙ ap remains same_start }
 
     ends : Ends (LoopPlan f s) [] p

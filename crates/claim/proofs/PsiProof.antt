@@ -19,7 +19,7 @@ use Rattle.machine.specs.PsiRest.{asked_of, psi_tells, d_psi_tells}
 use Rattle.machine.specs.PsiCalls.{PsiStarts, DPsiStarts}
 use Rattle.machine.proofs.PsiLaws.{psi_starts, d_psi_starts}
 use Rattle.claim.specs.History.{Call, History}
-use Rattle.claim.specs.Trace.{left}
+use Rattle.claim.specs.Trace.{remaining}
 use Rattle.claim.specs.Claim.{Over}
 use Rattle.claim.specs.Psi.{psi_runs, psi_of, PsiClaim, d_psi_runs, d_psi_of, DPsiClaim}
 use Rattle.claim.specs.Lawful.{Gives, nothing, back, Lawful}
@@ -82,7 +82,7 @@ module _ (f : Format) (s : Sizes) (u xi : List Float) where
     psi_same = begins (psi_runs f) (psi_lawful f) _ (psi_of f s u xi) a.told (psi_starts f s u xi a begins_at).outcome taken
 
     psi_first : After (psi_runs f) s (psi_of f s u xi) [] a.run
-    unfolding left
+    unfolding remaining
     psi_first = let c = psi_starts f s u xi a begins_at in record { settings = c.sizes; rest = c.process ∙ ap remains psi_same }
 
     -- From an accepted start of psi, whatever list of calls follows.
@@ -106,7 +106,7 @@ module _ (f : Format) (s : Sizes) (u xi : List Float) where
     d_psi_same = begins (d_psi_runs f) (d_psi_lawful f) _ (d_psi_of f s u xi) a.told (d_psi_starts f s u xi a begins_at).outcome taken
 
     d_psi_first : After (d_psi_runs f) s (d_psi_of f s u xi) [] a.run
-    unfolding left
+    unfolding remaining
     d_psi_first = let c = d_psi_starts f s u xi a begins_at in record { settings = c.sizes; rest = c.process ∙ ap remains d_psi_same }
 
     result_one : (c : Call (d_psi_runs f)) (before : List (Call (d_psi_runs f)))

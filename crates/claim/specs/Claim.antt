@@ -11,7 +11,7 @@ use Rattle.model.specs.Counts.{Tally, counting}
 use Rattle.model.specs.Least.{Scored, All}
 use Rattle.model.specs.Plans.{scoring}
 use Rattle.claim.specs.History.{Runs, Call, Meets}
-use Rattle.claim.specs.Trace.{comes_to, left, Event, answered, scored, began, trace, watched, turned_down, accepted, total_weight}
+use Rattle.claim.specs.Trace.{comes_to, remaining, Event, answered, scored, began, trace, watched, turned_down, accepted, total_weight}
 
 -- P holds of each call, with the calls before it
 abbrev pub Each : {A : Type 0} → (A → List A → Type 0) → List A → Type 0
@@ -34,9 +34,9 @@ Over k r = (c : Call k) → Meets k r c → (k.number c.outcome ≡ 6) × Unchan
 -- Every kind of run: from the run r, of which document 01's process p is left, the calls cs have led to the run t; at most b answers are to be accepted.
 pub record Follows {Q H : Type 0} (k : Runs Q H) (s : k.Settings) (p : Process Q H) (b : ℕ) (r : k.Run) (cs : List (Call k)) (t : k.Run) : Type 0 where
   -- "the run asks, scores, refuses and ends as document 01 says"
-  pub rest : k.rest t ≡ left k s p cs
-  pub says : Each (λ c before. c.outcome ≡ k.said (comes_to k s (left k s p before) c)) cs
-  pub writes : Each (λ c before. c.wrote ≡ k.written s (comes_to k s (left k s p before) c) c.lent) cs
+  pub rest : k.rest t ≡ remaining k s p cs
+  pub says : Each (λ c before. c.outcome ≡ k.said (comes_to k s (remaining k s p before) c)) cs
+  pub writes : Each (λ c before. c.wrote ≡ k.written s (comes_to k s (remaining k s p before) c) c.lent) cs
   -- "Refusals 6 to 8 leave the run unchanged"
   pub unchanged : Each (λ c before. turned_down k c ≡ true → Unchanged k (latest_run k r before) c) cs
   -- "every refusal leaves the lent plan and multipliers as the run found them"

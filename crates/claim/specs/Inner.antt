@@ -16,7 +16,7 @@ use Rattle.machine.specs.InnerRun.{Numbers, Told, Run}
 use Rattle.machine.specs.InnerRest.{rest, said}
 use Rattle.machine.specs.InnerCalls.{Answers, asking, first_point, second_point, Points}
 use Rattle.claim.specs.History.{hands_back, Runs, Call}
-use Rattle.claim.specs.Trace.{left, Event, trace, total_weight}
+use Rattle.claim.specs.Trace.{remaining, Event, trace, total_weight}
 use Rattle.claim.specs.Claim.{Each, Follows, ScoresRight, scores, Plan}
 
 -- the calls of an inner solve, each of which lends u
@@ -56,7 +56,7 @@ pub record InnerClaim (f : Format) (s : Settings) (u : List Float) (r : Run) (cs
   -- "the run asks, scores, refuses and ends as document 01 says; no more than .. answers are accepted, and after that many the run has ended": "30 + 56M together"
   pub follows : Follows (inner_runs f) s (solve f s u) (30 + 56 * s.limit) r cs t
   -- its questions have document 01's points: those that the call `points` copies out of the run
-  pub points : (xs xs' ys ys' : List Float) → Points f t xs xs' ys ys' 0 → (q : Question) → asking (left (inner_runs f) s (solve f s u) cs) ≡ some q → (xs' ≡ first_point q) × (ys' ≡ second_point q)
+  pub points : (xs xs' ys ys' : List Float) → Points f t xs xs' ys ys' 0 → (q : Question) → asking (remaining (inner_runs f) s (solve f s u) cs) ≡ some q → (xs' ≡ first_point q) × (ys' ≡ second_point q)
   -- "At most 14 + 22M COST, 3 + 11M GRADIENT, 12 + 21M PROJECT, 1 + M DIRECTION and M TIME"
   pub costs : total_weight (weigh only_cost) (trace_of f s u cs) ≤ 14 + 22 * s.limit
   pub gradients : total_weight (weigh only_gradient) (trace_of f s u cs) ≤ 3 + 11 * s.limit

@@ -18,7 +18,7 @@ use Rattle.machine.specs.LoopRest.{rest, said}
 use Rattle.machine.specs.LoopCalls.{lent_right, Answers, first_point, second_point, Points}
 use Rattle.machine.specs.Machines.{Places}
 use Rattle.claim.specs.History.{hands_back, Runs, Call}
-use Rattle.claim.specs.Trace.{left, Event, trace}
+use Rattle.claim.specs.Trace.{remaining, Event, trace}
 use Rattle.claim.specs.Claim.{Each, Follows, ScoresRight, scores, tally, Plan}
 
 -- document 01's process for the settings s, from u and xi
@@ -77,7 +77,7 @@ pub record LoopClaim (f : Format) (s : LoopSettings) (u xi : List Float) (r : Ru
   -- "the run asks, scores, refuses and ends as document 01 says; no more than K × (35 + 56 × M) + 1 answers are accepted, and after that many the run has ended"
   pub follows : Follows (loop_runs f) s (loop_of f s u xi) (worst_case s.outer s.limit) r cs t
   -- its questions have document 01's points: those that the call `points` copies out of the run
-  pub points : (xs xs' ys ys' : List Float) → Points f t xs xs' ys ys' 0 → (q : LoopQuestion) → asking (left (loop_runs f) s (loop_of f s u xi) cs) ≡ some q → (xs' ≡ first_point q) × (ys' ≡ second_point q)
+  pub points : (xs xs' ys ys' : List Float) → Points f t xs xs' ys ys' 0 → (q : LoopQuestion) → asking (remaining (loop_runs f) s (loop_of f s u xi) cs) ≡ some q → (xs' ≡ first_point q) × (ys' ≡ second_point q)
   -- "what is scored there is the solve's latest accepted PROJECT answer, and its norm is that of the residual, the latest GRADIENT's point minus this answer"
   pub scored : ScoresRight f seen_in_loop (trace_of f s u xi cs)
   -- "Where it hands back a plan, that plan is .." what the lent u holds then

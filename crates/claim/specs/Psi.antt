@@ -12,7 +12,7 @@ use Rattle.machine.specs.PsiRun.{Asked, PsiRun, DPsiRun}
 use Rattle.machine.specs.PsiRest.{psi_rest, d_psi_rest, asked_of, psi_tells, d_psi_tells, result_of}
 use Rattle.machine.specs.PsiCalls.{PsiAnswers, DPsiAnswers, first_point, second_point, Points}
 use Rattle.claim.specs.History.{hands_back, Runs, Call}
-use Rattle.claim.specs.Trace.{left}
+use Rattle.claim.specs.Trace.{remaining}
 use Rattle.claim.specs.Claim.{Each, Follows}
 
 -- ---- psi, whose answers lend nothing to be written
@@ -43,7 +43,7 @@ pub record PsiClaim (f : Format) (s : Sizes) (u xi : List Float) (r : PsiRun) (c
   -- "for psi and d_psi the bound is their 4 and 6 instead"; `says` has the number that it ends with
   pub follows : Follows (psi_runs f) s (psi_of f s u xi) 4 r cs t
   -- its questions have document 01's points
-  pub points : (xs xs' ys ys' : List Float) → Points (psi_rest f t) xs xs' ys ys' 0 → (q : PsiQuestion) → asking (left (psi_runs f) s (psi_of f s u xi) cs) ≡ some q → (xs' ≡ first_point q) × (ys' ≡ second_point q)
+  pub points : (xs xs' ys ys' : List Float) → Points (psi_rest f t) xs xs' ys ys' 0 → (q : PsiQuestion) → asking (remaining (psi_runs f) s (psi_of f s u xi) cs) ≡ some q → (xs' ≡ first_point q) × (ys' ≡ second_point q)
 
 -- ---- d_psi, whose answers lend the result
 
@@ -71,6 +71,6 @@ pub record DPsiClaim (f : Format) (s : Sizes) (u xi : List Float) (r : DPsiRun) 
   -- "for psi and d_psi the bound is their 4 and 6 instead"; `writes` has the numbers that it writes, `kept` that it writes them "at its end only"
   pub follows : Follows (d_psi_runs f) s (d_psi_of f s u xi) 6 r cs t
   -- its questions have document 01's points
-  pub points : (xs xs' ys ys' : List Float) → Points (d_psi_rest f t) xs xs' ys ys' 0 → (q : PsiQuestion) → asking (left (d_psi_runs f) s (d_psi_of f s u xi) cs) ≡ some q → (xs' ≡ first_point q) × (ys' ≡ second_point q)
+  pub points : (xs xs' ys ys' : List Float) → Points (d_psi_rest f t) xs xs' ys ys' 0 → (q : PsiQuestion) → asking (remaining (d_psi_runs f) s (d_psi_of f s u xi) cs) ≡ some q → (xs' ≡ first_point q) × (ys' ≡ second_point q)
   -- "`d_psi` writes n numbers into a lent slice"
   pub result : Each (λ c before. c.outcome ≡ Say.Told.ended tt → length c.wrote ≡ s.n) cs

@@ -33,9 +33,9 @@ where_accepted zero new was = new
 where_accepted (suc m) new was = was
 
 -- what is left of the process p after a list of calls, the latest first
-unfoldable pub left : {Q H : Type 0} → (k : Runs Q H) → k.Settings → Process Q H → List (Call k) → Process Q H
-left k s p [] = remains p
-left k s p (c ∷ cs) = let q = left k s p cs in where_accepted (refusal k s q c) (remains (leads_to k q c)) q
+unfoldable pub remaining : {Q H : Type 0} → (k : Runs Q H) → k.Settings → Process Q H → List (Call k) → Process Q H
+remaining k s p [] = remains p
+remaining k s p (c ∷ cs) = let q = remaining k s p cs in where_accepted (refusal k s q c) (remains (leads_to k q c)) q
 
 -- ---- what happened
 
@@ -62,7 +62,7 @@ taken (stop e) r v es = es
 unfoldable pub trace : {Q H : Type 0} → (k : Runs Q H) → k.Settings → Process Q H → List (Call k) → List (Event Q)
 trace k s p [] = passed p []
 trace k s p (c ∷ cs) =
-    let q = left k s p cs in
+    let q = remaining k s p cs in
     where_accepted (refusal k s q c) (passed (leads_to k q c) (taken q (reply_of c.reply) c.vector (trace k s p cs))) (trace k s p cs)
 
 -- what a watch has come to, from x, after these events

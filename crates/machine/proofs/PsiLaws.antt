@@ -420,6 +420,6 @@ unfolding asking points_refusal
 points_none p xs ys e = rw e (record { number = refl; kept = λ i z. (refl, refl); points = λ z. absurd (omega arith) })
 
 -- and so has one that no start made
-pub rest_wild : {P V H : Type 0} (resume : Run P V → P → Process PsiQuestion H) (r : Run P V) → sound r.sizes ≡ false → rest resume r ≡ stop (refused 6)
+pub rest_unsound : {P V H : Type 0} (resume : Run P V → P → Process PsiQuestion H) (r : Run P V) → sound r.sizes ≡ false → rest resume r ≡ stop (refused 6)
 unfolding rest
-rest_wild resume r h = rw h
+rest_unsound resume r h = rw h

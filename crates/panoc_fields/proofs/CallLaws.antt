@@ -22,10 +22,10 @@ use Rattle.panoc_fields.specs.declared.fields.InnerC.{InnerC}
 use Rattle.panoc_fields.specs.Fields.{Seen, solve_at, run_at, seen, exact, handed, refusal_at, answer_at, Leaves}
 
 -- an answer of no kind has a number too
-pub strange_some : (w : Option Kind) → of_no_kind w ≡ 0 → ⊥
+pub of_no_kind_some : (w : Option Kind) → of_no_kind w ≡ 0 → ⊥
 unfolding of_no_kind
-strange_some none e = omega arith
-strange_some (some k) e = omega arith
+of_no_kind_some none e = omega arith
+of_no_kind_some (some k) e = omega arith
 
 -- where nothing is refused the lent place fits
 accepted_at : (w : Option Kind) (a : Reply) (vs : ℕ) (t : Bool) → answer_refusal w a vs t ≡ 0 → (t ≡ true) × (answer_refusal w a vs true ≡ 0)
@@ -52,11 +52,11 @@ module _ (was : InnerC) (v us : List Float) (s : Solve) (i : s ≡ solve_at was.
   e = d was.board ∙ ap (λ (o : Solve). wanted_by (run_of o was.board)) i
 
   -- a refused answer
-  pub leaves_strange : (o : Option Reply) (number : ℕ) → none ≡ o → number ≡ of_no_kind w → Leaves o v us us was was number
+  pub leaves_of_no_kind : (o : Option Reply) (number : ℕ) → none ≡ o → number ≡ of_no_kind w → Leaves o v us us was was number
   unfolding any_refusal
-  leaves_strange o number q z =
+  leaves_of_no_kind o number q z =
       subst (λ (o : Option Reply). Leaves o v us us was was number) q
-      (record { refused = λ k t. (z ∙ ap of_no_kind e ∙ t, refl, refl); accepted = λ t. absurd (strange_some _ t) })
+      (record { refused = λ k t. (z ∙ ap of_no_kind e ∙ t, refl, refl); accepted = λ t. absurd (of_no_kind_some _ t) })
 
   module _ (a : Reply) (o : Option Reply) (q : some a ≡ o) where
     pub leaves_refused : (k : Refusal) → refusal_number k ≡ answer_refusal w a (length v) (eqb (length us) was.inner.n) → Leaves o v us us was was (refusal_number k)

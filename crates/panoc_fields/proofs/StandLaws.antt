@@ -17,9 +17,9 @@ module _ (s : Solve) (t : Bool) (z : (l : List Float) → t ≡ sound (run_of s 
   unfolding run_of sound
   sound_is = z []
 
-  pub stands_wild : t ≡ false → 14 ≡ inner_standing (run_at s b)
+  pub stands_unsound : t ≡ false → 14 ≡ inner_standing (run_at s b)
   unfolding question_of
-  stands_wild f = let h = sym sound_is ∙ f in rw h refl
+  stands_unsound f = let h = sym sound_is ∙ f in rw h refl
 
   pub stands_over : t ≡ true → P.Over ≡ s.phase → 14 ≡ inner_standing (run_at s b)
   unfolding question_of

@@ -1,11 +1,11 @@
 use Rattle.std.proofs.Common.{sym, ap, ◌∙◌}
 use Rattle.machine.specs.LoopNumbers.{question_number}
 use Rattle.alm_fields.specs.Fields.{alm_at}
-use Rattle.alm_c.proofs.StandLaws.{stands_wild, stands_over, stands_inner, stands_own}
+use Rattle.alm_c.proofs.StandLaws.{stands_unsound, stands_over, stands_inner, stands_own}
 use Rattle.alm_c.proofs.points.pozkerrin_loop_question.Goals as goal
 
 pub returns-then-not-is_sound : goal.returns-then-not-is_sound
-returns-then-not-is_sound c = stands_wild (alm_at c.args.run.now.inner c.args.run.now.alm) c.args.run.now.board _ (c.is_sound.ensures c.args.run.now.board) c.if-not-is_sound.true
+returns-then-not-is_sound c = stands_unsound (alm_at c.args.run.now.inner c.args.run.now.alm) c.args.run.now.board _ (c.is_sound.ensures c.args.run.now.board) c.if-not-is_sound.true
 
 pub returns-in-Over : goal.returns-in-Over
 returns-in-Over c =
