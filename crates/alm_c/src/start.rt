@@ -9,12 +9,13 @@ use alm_engine::outer_iterations::begins;
 use alm_fields::fields::{AlmC, AlmFields, alm_of, settings_of};
 use alm_fields::keeping::{keep_ended, keep_moved};
 use alm_fields::numbers::phase_number;
-use alm_optimizer::starting::{multipliers_in, penalty_in, start_refusal};
+use alm_optimizer::starting::start_refusal;
 use board::copies::take_into;
 use board::{U, Y, Y_PLUS};
 use panoc_engine::panoc_cache::ExitStatus;
 use panoc_fields::fields::InnerFields;
 use panoc_fields::numbers::{flag_number, status_number};
+use starts::multipliers::{multipliers_in, penalty_in};
 
 // What a start is given: n, n1 and n2; whether a set Y is given; M and K; whether TIME is asked; the tolerances, the factors and the decrease coefficient. A
 // flag is yes unless it is 0.

@@ -1,6 +1,6 @@
 // The public calls that begin a run of psi or of d_psi at a lent u and xi: what they test, the table's 1 and 2, and the run that they begin.
-ghost use Rattle.std.specs.Prelude.{◌≡◌, ◌≤◌, ◌+◌, eqb, length};
-ghost use Rattle.model.specs.Refusals.{xi_length, psi_refusal};
+ghost use Rattle.std.specs.Prelude.{◌≡◌, ◌≤◌, ◌+◌, length};
+ghost use Rattle.model.specs.Refusals.{psi_refusal};
 ghost use Rattle.model.specs.Refusals as R;
 ghost use Rattle.board.specs.Board.{write};
 ghost use Rattle.machine.specs.PsiCalls.{PsiStarts, DPsiStarts};
@@ -15,39 +15,21 @@ use crate::records::{
 use crate::vectors::{U, Y};
 use board::copies::take_into;
 use panoc_engine::outcome::Refusal;
-
-// Whether a xi of so many places is empty where n1 = n2 = 0, and else has the penalty and n1 multipliers.
-#[tactic(auto, unfolding(model::specs::Refusals::xi_length))]
-fn xi_fits(s: Sizes, places: usize) -> bool
-    ensures { result ≡ eqb places (xi_length s.n1 s.n2) }
-{
-    if s.n1 == 0 && s.n2 == 0 {
-        places == 0
-    } else {
-        places != 0 && places - 1 == s.n1
-    }
-}
+use starts::multipliers::penalty_in;
+use starts::sizes::{mappings_right, sizes_right};
 
 // Why a start is refused; us and xis are the lengths of u and xi.
-#[tactic(auto, unfolding(model::specs::Refusals::psi_refusal, model::specs::Refusals::unless, model::specs::Refusals::sizes_right, model::specs::Refusals::mappings_right))]
+#[tactic(auto, unfolding(model::specs::Refusals::psi_refusal, model::specs::Refusals::unless))]
 fn start_refusal(s: Sizes, us: usize, xis: usize) -> Option<Refusal>
     ensures { number_of result ≡ psi_refusal (sizes_of s) us xis }
 {
-    if !((1..=64).contains(&s.n) && us == s.n) {
+    if !sizes_right(s.n, us) {
         Some(Refusal::Sizes)
-    } else if !(s.n1 <= 32 && s.n2 <= 32 && xi_fits(s, xis)) {
+    } else if !mappings_right(s.n1, s.n2, false, xis) {
         Some(Refusal::Mappings)
     } else {
         None
     }
-}
-
-// The penalty of a xi, 0 where it is empty.
-#[tactic(auto, using(ieee::proofs::Special::zero_bits), unfolding(model::specs::Refusals::penalty_in))]
-fn penalty_in(xi: &[f64]) -> f64
-    ensures { result ≡ R.penalty_in xi.now }
-{
-    xi.first().copied().unwrap_or(0.0)
 }
 
 // A board of zeros, by a name: callers learn of the literal here that it is `null` at every place.

@@ -18,6 +18,7 @@ use board::copies::{is_finite_in, take_into};
 use board::{U, Y, Y_PLUS};
 use panoc_engine::outcome::Refusal;
 use panoc_engine::panoc_cache::{ExitStatus, InnerIterations};
+use starts::multipliers::{multipliers_in, penalty_in};
 use starts::numbers::{factor_right, fraction_right, limit_right, tolerance_right};
 use starts::sizes::{mappings_right, sizes_right};
 
@@ -74,30 +75,6 @@ pub fn start_refusal(set: AlmSettings, u: &[f64], xi: &[f64]) -> Option<Refusal>
         None
     } else {
         Some(Refusal::Multipliers)
-    }
-}
-
-// ---- what a xi has
-
-// The penalty, 0 where it is empty.
-#[tactic(auto, using(ieee::proofs::Special::zero_bits), unfolding(model::specs::Refusals::penalty_in))]
-pub fn penalty_in(xi: &[f64]) -> f64
-    ensures { result ≡ R.penalty_in xi.now }
-{
-    match xi {
-        [] => 0.0,
-        [c, ..] => *c,
-    }
-}
-
-// The multipliers, none where it is empty.
-#[tactic(auto, unfolding(model::specs::Refusals::multipliers_in))]
-pub fn multipliers_in(xi: &[f64]) -> &[f64]
-    ensures { result.now ≡ R.multipliers_in xi.now }
-{
-    match xi {
-        [] => xi,
-        [_, y @ ..] => y,
     }
 }
 
