@@ -7,7 +7,7 @@ pub mod points;
 pub mod psi;
 pub mod psi_answers;
 pub mod records;
-pub mod starts;
+pub mod starting;
 pub mod terms;
 pub mod vectors;
 pub mod waits;

@@ -15,7 +15,7 @@ use alm_factory::points::d_psi_points_in_place;
 use alm_factory::records::{
     DPsi, DPsiMoved, DPsiOutcome, DPsiPhase, DPsiStepped, PsiQuestion, Sizes,
 };
-use alm_factory::starts::d_psi_start_in_place;
+use alm_factory::starting::d_psi_start_in_place;
 use alm_factory::waits::{d_psi_waits, is_sound};
 use panoc_engine::refusals::refusal;
 use panoc_fields::numbers::{

@@ -13,7 +13,7 @@ use crate::numbers::{psi_phase_at, psi_phase_number, question_number};
 use alm_factory::points::psi_points_in_place;
 use alm_factory::psi_answers::step;
 use alm_factory::records::{Psi, PsiMoved, PsiOutcome, PsiPhase, PsiQuestion, PsiStepped, Sizes};
-use alm_factory::starts::psi_start_in_place;
+use alm_factory::starting::psi_start_in_place;
 use alm_factory::waits::{is_sound, psi_waits};
 use panoc_engine::refusals::refusal;
 use panoc_fields::numbers::{

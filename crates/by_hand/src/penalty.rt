@@ -5,7 +5,7 @@ use alm_factory::d_psi_answers::d_psi_answer;
 use alm_factory::points::{d_psi_points, psi_points};
 use alm_factory::psi_answers::psi_answer;
 use alm_factory::records::{DPsiOutcome, DPsiRun, PsiOutcome, PsiQuestion, PsiRun};
-use alm_factory::starts::{d_psi_start, psi_start};
+use alm_factory::starting::{d_psi_start, psi_start};
 use anyhow::{Result, bail};
 
 fn psi_point(run: PsiRun, question: PsiQuestion) -> Result<Points> {

@@ -8,7 +8,7 @@ use crate::play::{Lent, Open, Play, resize};
 use crate::{inner, outer};
 use alm_engine::alm_cache::AlmSettings;
 use alm_factory::records::Sizes;
-use alm_factory::starts::{d_psi_start, psi_start};
+use alm_factory::starting::{d_psi_start, psi_start};
 use panoc_engine::panoc_cache::Settings;
 
 // What the program begins with: before the first line an answer goes to an inner solve that was refused, and nothing is lent.

@@ -10,7 +10,7 @@ use crate::task::{Task, kind_of, number_in};
 use alm_factory::d_psi_answers::d_psi_answer;
 use alm_factory::points::d_psi_points;
 use alm_factory::records::DPsiAnswered;
-use alm_factory::starts::d_psi_start;
+use alm_factory::starting::d_psi_start;
 
 // The answers, one after the other.
 fn feed(mut last: DPsiAnswered, places: &[u32], xs: &[f64], res: &mut [f64]) -> DPsiAnswered

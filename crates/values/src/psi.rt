@@ -10,7 +10,7 @@ use crate::task::{Task, kind_of, number_in};
 use alm_factory::points::psi_points;
 use alm_factory::psi_answers::psi_answer;
 use alm_factory::records::{PsiAnswered, PsiOutcome};
-use alm_factory::starts::psi_start;
+use alm_factory::starting::psi_start;
 
 // The answers, one after the other.
 fn feed(mut last: PsiAnswered, places: &[u32], xs: &[f64]) -> PsiAnswered

@@ -8,7 +8,7 @@ use crate::answers::{Answer, next};
 use alm_factory::d_psi_answers::d_psi_answer;
 use alm_factory::psi_answers::psi_answer;
 use alm_factory::records::{DPsiAnswered, DPsiOutcome, PsiAnswered, PsiOutcome, Sizes};
-use alm_factory::starts::{d_psi_start, psi_start};
+use alm_factory::starting::{d_psi_start, psi_start};
 
 // A run of psi by value from u and xi. A start that is refused is fed nothing.
 pub fn psi(sizes: Sizes, u: &[f64], xi: &[f64], list: &[Answer], floats: &[f64]) -> PsiAnswered

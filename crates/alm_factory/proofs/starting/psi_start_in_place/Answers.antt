@@ -1,5 +1,5 @@
 use Rattle.alm_factory.proofs.StartLaws.{psi_refused}
-use Rattle.alm_factory.proofs.starts.psi_start_in_place.Goals as goal
+use Rattle.alm_factory.proofs.starting.psi_start_in_place.Goals as goal
 
 pub returns-in-Some : goal.returns-in-Some
 returns-in-Some c = psi_refused c.args.sizes c.args.u.now c.args.xi.now c.in-Some.refusal c.in-Some.ensures _ c.args.board.now _
