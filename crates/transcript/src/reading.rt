@@ -13,7 +13,8 @@ use std::io::{BufRead, Read};
 // A line has no more bytes.
 const LONGEST: usize = 4096;
 
-// The next line, less its newline, of a line that is too long the first bytes; false at the end of the input. The last line may have no newline.
+// The next line, less its newline, of a line that is too long the first bytes and some of its last; false at the end of the input. What is left
+// behind the last newline is no line.
 pub fn next(input: &mut impl BufRead, line: &mut Vec<u8>) -> io::Result<bool> {
     line.clear();
     let mut start = input.by_ref().take(LONGEST as u64 + 1);
@@ -22,10 +23,22 @@ pub fn next(input: &mut impl BufRead, line: &mut Vec<u8>) -> io::Result<bool> {
         line.pop();
         return Ok(true);
     }
-    if line.len() > LONGEST {
-        input.skip_until(b'\n')?;
+    Ok(line.len() > LONGEST && passed_over(input, line)?)
+}
+
+// What is left of a line that is too long is read, a part at a time, and the line stays too long; false where the input ends before a newline.
+fn passed_over(input: &mut impl BufRead, line: &mut Vec<u8>) -> io::Result<bool> {
+    for _ in 0..u64::MAX {
+        line.truncate(LONGEST + 1);
+        let mut part = input.by_ref().take(LONGEST as u64);
+        if part.read_until(b'\n', line)? == 0 {
+            return Ok(false);
+        }
+        if line.last() == Some(&b'\n') {
+            return Ok(true);
+        }
     }
-    Ok(!line.is_empty())
+    Ok(false)
 }
 
 // What a line says; of another form is one that is too long, too.
