@@ -1,22 +1,47 @@
 // Vectors copied, into a board, within it and out of it; zeros; the test of a vector.
 #![tactic(auto, using(crate::proofs::Loops::loops))]
 
-ghost use Rattle.std.specs.Prelude.{◌≡◌, ◌≢◌, ◌≤◌, ◌+◌, ◌*◌, length, replicate};
+ghost use Rattle.std.specs.Prelude.{◌≡◌, ◌≢◌, ◌≤◌, ◌<◌, ◌+◌, ◌*◌, length, replicate};
 ghost use Rattle.ieee.specs.Numbers.{null};
 ghost use Rattle.model.specs.Vectors.{all_finite};
 ghost use Rattle.board.specs.Board.{vector, write};
 
-// Vector `to` = v.
-#[tactic(auto, using(crate::proofs::Parts::parts))]
+// Vector `to` = v. Copies go place by place: std's would call memmove, which a host without a C library lacks.
 pub fn take_into(v: &[f64], board: &mut [f64], to: usize)
     requires { 64 * to + length v.now ≤ length board.old }
     ensures { board.new ≡ write to v.now board.old }
 {
-    board[64 * to..64 * to + v.len()].copy_from_slice(v);
+    for (i, x) in v.iter().enumerate() {
+        board[64 * to + i] = *x;
+    }
+}
+
+// Vector `to` = vector `from`, which lies before it.
+fn copy_up(board: &mut [f64], from: usize, to: usize, n: usize)
+    requires count { n ≤ 64 }
+    requires apart { from < to }
+    requires target { 64 * to + 64 ≤ length board.old }
+    ensures { board.new ≡ write to (vector from n board.old) board.old }
+{
+    for i in 0..n {
+        board[64 * to + i] = board[64 * from + i];
+    }
+}
+
+// Vector `to` = vector `from`, which lies behind it. From the last place on: upwards the loop would become a call of memmove.
+fn copy_down(board: &mut [f64], from: usize, to: usize, n: usize)
+    requires count { n ≤ 64 }
+    requires apart { to < from }
+    requires source { 64 * from + 64 ≤ length board.old }
+    ensures { board.new ≡ write to (vector from n board.old) board.old }
+{
+    for k in 0..n {
+        let i = n - 1 - k;
+        board[64 * to + i] = board[64 * from + i];
+    }
 }
 
 // Vector `to` = vector `from`.
-#[tactic(auto, using(crate::proofs::Parts::parts))]
 pub fn copy_into(board: &mut [f64], from: usize, to: usize, n: usize)
     requires count { n ≤ 64 }
     requires apart { from ≢ to }
@@ -25,11 +50,9 @@ pub fn copy_into(board: &mut [f64], from: usize, to: usize, n: usize)
     ensures { board.new ≡ write to (vector from n board.old) board.old }
 {
     if from < to {
-        let (left, right) = board.split_at_mut(64 * to);
-        right[..n].copy_from_slice(&left[64 * from..64 * from + n]);
+        copy_up(board, from, to, n);
     } else {
-        let (left, right) = board.split_at_mut(64 * from);
-        left[64 * to..64 * to + n].copy_from_slice(&right[..n]);
+        copy_down(board, from, to, n);
     }
 }
 
@@ -44,12 +67,13 @@ pub fn zero_into(board: &mut [f64], to: usize, n: usize)
 }
 
 // out = vector `from`.
-#[tactic(auto, using(crate::proofs::Parts::parts))]
 pub fn give(board: &[f64], from: usize, out: &mut [f64])
     requires { 64 * from + length out.old ≤ length board.now }
     ensures { out.new ≡ vector from (length out.old) board.now }
 {
-    out.copy_from_slice(&board[64 * from..64 * from + out.len()]);
+    for i in 0..out.len() {
+        out[i] = board[64 * from + i];
+    }
 }
 
 // Whether every entry of a slice is finite.
