@@ -1,4 +1,4 @@
--- What the calls by value come to. Assumes nothing.
+-- What the calls come to. Assumes nothing.
 use Rattle.std.proofs.Common.{◌≡◌, refl, ap, sym, ◌∙◌, ℕ, zero, suc, ◌≤◌, Bool, true, false, cond, ◌&&◌, eqb, eqb-true, leb, leb-true, ltb, List, length, Float, arith}
 use Rattle.std.specs.Prelude as Std
 use Rattle.std.specs.Float.{binary64}
@@ -32,7 +32,6 @@ use Rattle.panoc_engine.specs.Runs.{run_of, stepped}
 use Rattle.panoc_engine.proofs.Answered.{accepted_stands}
 use Rattle.panoc_engine.proofs.Held.{holds, wrote_u}
 use Rattle.panoc_engine.specs.Blank.{blank}
-use Rattle.panoc_optimizer.specs.Calls.{gave}
 use Rattle.panoc_engine.proofs.Numbers.{refusal_some}
 
 -- a refused call
@@ -61,7 +60,7 @@ module _ (s : Settings) (u : List Float) where
   start_size z = let q = places (sym z) in omega (arith, q.0, q.1)
 
   pub start_stops : (k : Refusal) (l z : List Float) → l ≡ z → refusal_number k ≡ inner_refusal (settings_of s) u
-      → gave (record { outcome = O.Refused k; run = record { solve = record (blank s) { phase = P.Over }; board = l } }) ≡ Answer.start (settings_of s) u (run_of (blank s) z)
+      → stepped (record { outcome = O.Refused k; state = record (blank s) { phase = P.Over } }) l ≡ Answer.start (settings_of s) u (run_of (blank s) z)
   unfolding run_of Answer.start
   start_stops k l z e n =
       rw e
@@ -69,7 +68,7 @@ module _ (s : Settings) (u : List Float) where
       (refused_at (λ (j : ℕ). let t : Left = record { told = Say.Told.refused j; run = Answer.no_run (settings_of s) (run_of (blank s) z) } in t) _ (refusal_number k) _ n (refusal_some k)))
 
   pub start_begins : (l z l' : List Float) → l' ≡ write U u l → l ≡ z → 576 ≤ length l → 0 ≡ inner_refusal (settings_of s) u
-      → gave (record { outcome = O.Asked Q.Cost; run = record { solve = blank s; board = l' } }) ≡ Answer.start (settings_of s) u (run_of (blank s) z)
+      → stepped (record { outcome = O.Asked Q.Cost; state = blank s }) l' ≡ Answer.start (settings_of s) u (run_of (blank s) z)
   unfolding run_of Answer.start
   start_begins l z l' d e p n =
       let q = places (sym n) in

@@ -1,4 +1,4 @@
-// The public calls of the inner solve, by value: a start, an answer, and the points of a question. The records are those of panoc_engine.
+// The public calls of the inner solve, in place and by value: a start, an answer, and the points of a question. The records are those of panoc_engine.
 #![tactic(auto)]
 
 ghost use Rattle.std.specs.Prelude.{◌≡◌, ◌≤◌, ◌<◌, ◌+◌, ◌*◌, length};
@@ -9,7 +9,7 @@ ghost use Rattle.machine.specs.Told.{given};
 ghost use Rattle.machine.specs.InnerAnswer.{start, answer, plan_after, points};
 ghost use Rattle.panoc_engine.specs.Told.{number_of};
 ghost use Rattle.panoc_engine.specs.Values.{akkt_of, settings_of, reply_of, told_of};
-ghost use Rattle.panoc_engine.specs.Runs.{run_of};
+ghost use Rattle.panoc_engine.specs.Runs.{run_of, stepped};
 ghost use Rattle.panoc_engine.specs.Blank.{blank};
 ghost use Rattle.panoc_optimizer.specs.Calls.{gave, no_places, shows};
 
@@ -18,7 +18,9 @@ use board::{BEST, U};
 use panoc_engine::answers::{answer_accepted, in_range, wants};
 use panoc_engine::first::blank;
 use panoc_engine::outcome::Refusal;
-use panoc_engine::panoc_cache::{Answered, Outcome, Phase, Question, Reply, Run, Settings, Solve};
+use panoc_engine::panoc_cache::{
+    Answered, Outcome, Phase, Question, Reply, Run, Settings, Solve, Stepped,
+};
 use panoc_engine::points::{first_places, place_of, second_places};
 use panoc_engine::refusals::refusal;
 use starts::numbers::{limit_right, tolerance_right};
@@ -28,7 +30,7 @@ use starts::sizes::sizes_right;
 
 // The AKKT tolerance may be missing.
 #[tactic(auto, unfolding(model::specs::Refusals::akkt_right))]
-fn akkt_right(akkt: Option<f64>) -> bool
+pub fn akkt_right(akkt: Option<f64>) -> bool
     ensures { result ≡ R.akkt_right (akkt_of akkt) }
 {
     akkt.is_none_or(tolerance_right)
@@ -55,6 +57,26 @@ pub fn start_refusal(set: Settings, u: &[f64]) -> Option<Refusal>
     }
 }
 
+// A run in place that is begun at u, or its refusal.
+#[tactic(auto, using(crate::proofs::Calls::start_stops, crate::proofs::Calls::start_begins, crate::proofs::Calls::start_size))]
+pub fn start_in_place(set: Settings, u: &[f64], board: &mut [f64; 576]) -> Stepped
+    ensures { stepped result board.new ≡ start (settings_of set) u.now (run_of (blank set) board.old) }
+{
+    let mut state = blank(set);
+    if let Some(refusal) = start_refusal(set, u) {
+        state.phase = Phase::Over;
+        return Stepped {
+            outcome: Outcome::Refused(refusal),
+            state,
+        };
+    }
+    take_into(u, board, U);
+    Stepped {
+        outcome: Outcome::Asked(Question::Cost),
+        state,
+    }
+}
+
 // A board of zeros, by a name: callers learn of the literal here that it is `null` at every place.
 #[tactic(auto, using(ieee::proofs::Special::zero_bits), unfolding(crate::specs::Calls::no_places))]
 fn zeros() -> [f64; 576]
@@ -64,24 +86,18 @@ fn zeros() -> [f64; 576]
     [0.0; 576]
 }
 
-// A run that is begun at u, or its refusal.
-#[tactic(auto, using(crate::proofs::Calls::start_stops, crate::proofs::Calls::start_begins, crate::proofs::Calls::start_size))]
+// A run by value that is begun at u, or its refusal.
 pub fn start(set: Settings, u: &[f64]) -> Answered
     ensures { gave result ≡ start (settings_of set) u.now (run_of (blank set) (no_places)) }
 {
-    let mut solve = blank(set);
     let mut board = zeros();
-    if let Some(refusal) = start_refusal(set, u) {
-        solve.phase = Phase::Over;
-        return Answered {
-            outcome: Outcome::Refused(refusal),
-            run: Run { solve, board },
-        };
-    }
-    take_into(u, &mut board, U);
+    let r = start_in_place(set, u, &mut board);
     Answered {
-        outcome: Outcome::Asked(Question::Cost),
-        run: Run { solve, board },
+        outcome: r.outcome,
+        run: Run {
+            solve: r.state,
+            board,
+        },
     }
 }
 
@@ -99,22 +115,36 @@ fn hand_out(outcome: Outcome, board: &[f64], u: &mut [f64])
     }
 }
 
-// An answer to the question of a run; v is the vector lent with it, and u the place of the plan.
+// An answer to the question of a run in place; v is the vector lent with it, and u the place of the plan.
 #[tactic(auto, using(crate::proofs::Calls::answers))]
+pub fn answer_in_place(
+    s: Solve,
+    a: Reply,
+    v: &[f64],
+    u: &mut [f64],
+    board: &mut [f64; 576],
+) -> Stepped
+    ensures run { stepped result board.new ≡ answer binary64 (run_of s board.old) (reply_of a) v.now u.old }
+    ensures plan { u.new ≡ plan_after (answer binary64 (run_of s board.old) (reply_of a) v.now u.old) u.old }
+{
+    if let Some(refusal) = refusal(wants(s), a, v.len(), u.len() == s.set.n) {
+        return Stepped {
+            outcome: Outcome::Refused(refusal),
+            state: s,
+        };
+    }
+    let r = answer_accepted(a, v, s, board);
+    hand_out(r.outcome, board, u);
+    r
+}
+
+// An answer to the question of a run by value.
 pub fn answer(mut run: Run, a: Reply, v: &[f64], u: &mut [f64]) -> Answered
     ensures run { gave result ≡ answer binary64 (run_of run.solve run.board) (reply_of a) v.now u.old }
     ensures plan { u.new ≡ plan_after (answer binary64 (run_of run.solve run.board) (reply_of a) v.now u.old) u.old }
 {
-    let s = run.solve;
-    if let Some(refusal) = refusal(wants(s), a, v.len(), u.len() == s.set.n) {
-        return Answered {
-            outcome: Outcome::Refused(refusal),
-            run,
-        };
-    }
-    let r = answer_accepted(a, v, s, &mut run.board);
+    let r = answer_in_place(run.solve, a, v, u, &mut run.board);
     run.solve = r.state;
-    hand_out(r.outcome, &run.board, u);
     Answered {
         outcome: r.outcome,
         run,
