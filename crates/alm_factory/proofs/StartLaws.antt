@@ -19,7 +19,7 @@ use Rattle.alm_factory.specs.declared.records.DPsi.{DPsi}
 use Rattle.alm_factory.specs.declared.records.DPsiPhase.TheVariants as D
 use Rattle.alm_factory.specs.Values.{sizes_of}
 use Rattle.alm_factory.specs.Runs as V
-use Rattle.alm_factory.specs.Runs.{blank, psi_run, d_psi_run, psi_places, d_psi_places, Stands}
+use Rattle.alm_factory.specs.Runs.{Stays, blank, psi_run, d_psi_run, psi_places, d_psi_places, Stands}
 use Rattle.panoc_engine.proofs.Numbers.{refusal_some}
 use Rattle.alm_factory.proofs.Boards.{zero_vector, length_blank, write_u, write_y, write_d_u, write_d_y}
 
@@ -36,6 +36,10 @@ module _ (s : Sizes) (u xi : List Float) where
 
   -- ---- what a start begins, on a board of zeros
   module _ (e : 0 ≡ psi_refusal (sizes_of s) (length u) (length xi)) where
+    -- nothing is owed of a start that is taken
+    pub start_writes : (l l' : List Float) → Stays s u xi l l'
+    start_writes l l' k q = absurd (omega (arith, e, q))
+
     ok : Started (sizes_of s) (length u) xi
     ok = started (sizes_of s) (length u) xi (sym e)
 

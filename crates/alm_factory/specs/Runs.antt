@@ -1,7 +1,7 @@
 -- The run of the machine that the small part of a run and its board stand for, and what a call leaves of it. Definitions only.
-use Rattle.std.specs.Prelude.{ℕ, ◌≡◌, true, ◌≤◌, List, [], ◌∷◌, Float, length, replicate}
+use Rattle.std.specs.Prelude.{ℕ, suc, ◌≡◌, true, ◌≤◌, List, [], ◌∷◌, Float, length, replicate}
 use Rattle.ieee.specs.Numbers.{null}
-use Rattle.model.specs.Refusals.{Reply, answer_refusal}
+use Rattle.model.specs.Refusals.{Reply, answer_refusal, psi_refusal}
 use Rattle.board.specs.Board.{vector, beyond}
 use Rattle.machine.specs.PsiRun as M
 use Rattle.machine.specs.PsiCalls.{waits, psi_kind_at, d_psi_kind_at}
@@ -49,6 +49,10 @@ psi_places s = s.n ∷ (s.n1 ∷ (s.n1 ∷ (64 ∷ [])))
 
 abbrev pub d_psi_places : Sizes → List ℕ
 d_psi_places s = s.n ∷ (s.n1 ∷ (s.n ∷ (s.n1 ∷ (64 ∷ (64 ∷ [])))))
+
+-- where the table refuses a start, the board stays as it was: l before, l' after
+abbrev pub Stays : Sizes → List Float → List Float → List Float → List Float → Type 0
+Stays s u xi l l' = (k : ℕ) → psi_refusal (sizes_of s) (length u) (length xi) ≡ suc k → l' ≡ l
 
 -- a board of k zeros
 unfoldable pub blank : ℕ → List Float

@@ -6,7 +6,7 @@ ghost use Rattle.board.specs.Board.{write};
 ghost use Rattle.machine.specs.PsiCalls.{PsiStarts, DPsiStarts};
 ghost use Rattle.panoc_engine.specs.Told.{number_of};
 ghost use Rattle.alm_factory.specs.Values.{sizes_of};
-ghost use Rattle.alm_factory.specs.Runs.{U, Y, blank, psi_stepped, psi_gave, d_psi_stepped, d_psi_gave};
+ghost use Rattle.alm_factory.specs.Runs.{U, Y, Stays, blank, psi_stepped, psi_gave, d_psi_stepped, d_psi_gave};
 
 use crate::records::{
     DPsi, DPsiAnswered, DPsiOutcome, DPsiPhase, DPsiRun, DPsiStepped, Psi, PsiAnswered, PsiOutcome,
@@ -20,7 +20,7 @@ use starts::sizes::{mappings_right, sizes_right};
 
 // Why a start is refused; us and xis are the lengths of u and xi.
 #[tactic(auto, unfolding(model::specs::Refusals::psi_refusal, model::specs::Refusals::unless))]
-fn start_refusal(s: Sizes, us: usize, xis: usize) -> Option<Refusal>
+pub fn start_refusal(s: Sizes, us: usize, xis: usize) -> Option<Refusal>
     ensures { number_of result ≡ psi_refusal (sizes_of s) us xis }
 {
     if !sizes_right(s.n, us) {
@@ -53,10 +53,11 @@ fn take_point(u: &[f64], xi: &[f64], board: &mut [f64])
     }
 }
 
-// A run of psi in place that is begun at a lent u and xi, or its refusal.
-#[tactic(auto, using(crate::proofs::StartLaws::psi_started, crate::proofs::StartLaws::start_fits))]
+// A run of psi in place that is begun at a lent u and xi, or its refusal, which writes nothing.
+#[tactic(auto, using(crate::proofs::StartLaws::psi_started, crate::proofs::StartLaws::start_fits, crate::proofs::StartLaws::start_writes))]
 pub fn psi_start_in_place(sizes: Sizes, u: &[f64], xi: &[f64], board: &mut [f64; 256]) -> PsiStepped
-    ensures { PsiStarts (sizes_of sizes) u.now xi.now (psi_stepped result board.new) }
+    ensures begins { PsiStarts (sizes_of sizes) u.now xi.now (psi_stepped result board.new) }
+    ensures stays { Stays sizes u.now xi.now board.old board.new }
 {
     if let Some(refusal) = start_refusal(sizes, u.len(), xi.len()) {
         return PsiStepped {
@@ -97,15 +98,16 @@ pub fn psi_start(sizes: Sizes, u: &[f64], xi: &[f64]) -> PsiAnswered
     }
 }
 
-// A run of d_psi in place that is begun at a lent u and xi, or its refusal.
-#[tactic(auto, using(crate::proofs::StartLaws::d_psi_started, crate::proofs::StartLaws::start_fits))]
+// A run of d_psi in place that is begun at a lent u and xi, or its refusal, which writes nothing.
+#[tactic(auto, using(crate::proofs::StartLaws::d_psi_started, crate::proofs::StartLaws::start_fits, crate::proofs::StartLaws::start_writes))]
 pub fn d_psi_start_in_place(
     sizes: Sizes,
     u: &[f64],
     xi: &[f64],
     board: &mut [f64; 384],
 ) -> DPsiStepped
-    ensures { DPsiStarts (sizes_of sizes) u.now xi.now (d_psi_stepped result board.new) }
+    ensures begins { DPsiStarts (sizes_of sizes) u.now xi.now (d_psi_stepped result board.new) }
+    ensures stays { Stays sizes u.now xi.now board.old board.new }
 {
     if let Some(refusal) = start_refusal(sizes, u.len(), xi.len()) {
         return DPsiStepped {

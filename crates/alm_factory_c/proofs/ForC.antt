@@ -112,8 +112,8 @@ d_psi_sound =
     }
 
 -- After a start that got the number 0, whatever list of calls follows.
-pub d_psi_c_claim : (s : Sizes) (u xi : List Float) (is : DPsiC) → DPsiBegins s u xi is 0 → (cs : List (CallC DPsiC (List Float))) → Meet d_psi_c is cs → ClaimC d_psi_c (DPsiClaim binary64 (sizes_of s) u xi) is cs
-d_psi_c_claim s u xi is b cs m =
+pub d_psi_c_claim : (s : Sizes) (u xi : List Float) (was is : DPsiC) → DPsiBegins s u xi was is 0 → (cs : List (CallC DPsiC (List Float))) → Meet d_psi_c is cs → ClaimC d_psi_c (DPsiClaim binary64 (sizes_of s) u xi) is cs
+d_psi_c_claim s u xi was is b cs m =
     claim_for_c d_psi_c (Own binary64) d_psi_sound is
     (λ ds t h.
     subst (λ (r : DPsiRun). DPsiClaim binary64 (sizes_of s) u xi r ds t) (sym b.kept.run)

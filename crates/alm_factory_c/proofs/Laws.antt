@@ -107,13 +107,14 @@ module _ (was : PsiC) (a : Option Reply) (v : List Float) (w : Option Kind) (s :
       })
 
 pub psi_begun : (sizes : Sizes) (u xi : List Float) (was is : PsiC) (s : Psi) (m : PsiMoved) (l : List Float) (number : ℕ) → m.phase ≡ s.phase → m.value ≡ s.value
-    → PsiStarts (sizes_of sizes) u xi (record { told = told_of m.outcome; run = psi_run s l })
+    → PsiStarts (sizes_of sizes) u xi (record { told = told_of m.outcome; run = psi_run s l }) → R.Stays sizes u xi was.board l
     → is ≡ psi_put m (record was { n = s.sizes.n; n1 = s.sizes.n1; n2 = s.sizes.n2; c = s.c; board = l }) → number ≡ table_number (told_of m.outcome) → PsiBegins sizes u xi was is number
-psi_begun sizes u xi was is s m l number p x g e k =
+psi_begun sizes u xi was is s m l number p x g h e k =
     record {
       left = record { told = told_of m.outcome; run = psi_run (record s { phase = m.phase; value = m.value }) l };
       starts = rw (p, x) g;
       kept = psi_kept was is s m l number e k;
+      stays = λ i z. ap (λ (y : PsiC). y.board) e ∙ h i z;
     }
 
 -- ---- d_psi
@@ -163,11 +164,12 @@ module _ (was : DPsiC) (a : Option Reply) (v us : List Float) (w : Option Kind) 
       })
 
 pub d_psi_begun : (sizes : Sizes) (u xi : List Float) (was is : DPsiC) (s : DPsi) (m : DPsiMoved) (l : List Float) (number : ℕ) → m.phase ≡ s.phase
-    → DPsiStarts (sizes_of sizes) u xi (record { told = told_of m.outcome; run = d_psi_run s l })
-    → is ≡ d_psi_put m (record was { n = s.sizes.n; n1 = s.sizes.n1; n2 = s.sizes.n2; c = s.c; board = l }) → number ≡ table_number (told_of m.outcome) → DPsiBegins sizes u xi is number
-d_psi_begun sizes u xi was is s m l number p g e k =
+    → DPsiStarts (sizes_of sizes) u xi (record { told = told_of m.outcome; run = d_psi_run s l }) → R.Stays sizes u xi was.board l
+    → is ≡ d_psi_put m (record was { n = s.sizes.n; n1 = s.sizes.n1; n2 = s.sizes.n2; c = s.c; board = l }) → number ≡ table_number (told_of m.outcome) → DPsiBegins sizes u xi was is number
+d_psi_begun sizes u xi was is s m l number p g h e k =
     record {
       left = record { told = told_of m.outcome; run = d_psi_run (record s { phase = m.phase }) l };
       starts = rw p g;
       kept = d_psi_kept was is s m l number e k;
+      stays = λ i z. ap (λ (y : DPsiC). y.board) e ∙ h i z;
     }

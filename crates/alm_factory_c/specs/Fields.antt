@@ -19,7 +19,7 @@ use Rattle.alm_factory.specs.declared.records.PsiMoved.{PsiMoved}
 use Rattle.alm_factory.specs.declared.records.DPsiMoved.{DPsiMoved}
 use Rattle.alm_factory.specs.declared.records.Sizes.{Sizes}
 use Rattle.alm_factory.specs.Values.{sizes_of, psi_phase_of, d_psi_phase_of, told_of}
-use Rattle.alm_factory.specs.Runs.{psi_run, d_psi_run}
+use Rattle.alm_factory.specs.Runs.{psi_run, d_psi_run, Stays}
 use Rattle.alm_factory_c.specs.declared.psi.PsiC.{PsiC}
 use Rattle.alm_factory_c.specs.declared.d_psi.DPsiC.{DPsiC}
 
@@ -83,11 +83,12 @@ pub record PsiLeaves (a : Option Reply) (v : List Float) (was is : PsiC) (r : �
   pub refused : (k : ℕ) → psi_refusal_of was a (length v) ≡ suc k → (r ≡ suc k) × (is ≡ was)
   pub accepted : psi_refusal_of was a (length v) ≡ 0 → PsiKept (psi_answer_any binary64 a v (psi_of was)) was is r
 
--- a start
+-- a start: one that is refused leaves every place of the board as it was
 pub record PsiBegins (s : Sizes) (u xi : List Float) (was is : PsiC) (r : ℕ) : Type 0 where
   pub left : M.PsiLeft
   pub starts : PsiStarts (sizes_of s) u xi left
   pub kept : PsiKept left was is r
+  pub stays : Stays s u xi was.board is.board
 
 -- ---- d_psi, with the lent result
 
@@ -120,7 +121,8 @@ pub record DPsiLeaves (a : Option Reply) (v us ws : List Float) (was is : DPsiC)
   pub accepted : d_psi_refusal_of was a (length v) (length us) ≡ 0
       → DPsiKept (d_psi_answer_any binary64 a v us (d_psi_of was)) is r × (ws ≡ handed_out (d_psi_answer_any binary64 a v us (d_psi_of was)) us)
 
-pub record DPsiBegins (s : Sizes) (u xi : List Float) (is : DPsiC) (r : ℕ) : Type 0 where
+pub record DPsiBegins (s : Sizes) (u xi : List Float) (was is : DPsiC) (r : ℕ) : Type 0 where
   pub left : M.DPsiLeft
   pub starts : DPsiStarts (sizes_of s) u xi left
   pub kept : DPsiKept left is r
+  pub stays : Stays s u xi was.board is.board

@@ -92,7 +92,7 @@ pub extern "C" fn pozkerrin_d_psi_start(
     u: &[f64],
     xi: &[f64],
 ) -> u32
-    ensures { DPsiBegins (record { n = n; n1 = n1; n2 = n2 }) u.now xi.now run.new result }
+    ensures { DPsiBegins (record { n = n; n1 = n1; n2 = n2 }) u.now xi.now run.old run.new result }
 {
     let DPsiStepped { outcome, state } = d_psi_start_in_place(
         Sizes { n, n1, n2 },
