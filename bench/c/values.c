@@ -12,6 +12,10 @@
 enum { ASKED, ENDED };
 
 /* A run begins at u, and at xi, and is given answers: each has so many places, 0 where it is a number, and the places lie one answer behind the other. What comes back is the kind. */
+uint32_t values_inner_start(const task *t, const double *u, size_t us);
+uint32_t values_loop_start(const task *t, const double *u, size_t us, const double *xi, size_t xis);
+uint32_t values_psi_start(const task *t, const double *u, size_t us, const double *xi, size_t xis);
+uint32_t values_d_psi_start(const task *t, const double *u, size_t us, const double *xi, size_t xis);
 uint32_t values_inner(const task *t, const double *u, size_t us, const uint32_t *places, size_t count, const double *xs, size_t xss, double *plan, size_t plans);
 uint32_t values_loop(const task *t, const double *u, size_t us, double *xi, size_t xis, const uint32_t *places, size_t count, const double *xs, size_t xss, double *plan, size_t plans);
 uint32_t values_psi(const task *t, const double *u, size_t us, const double *xi, size_t xis, const uint32_t *places, size_t count, const double *xs, size_t xss, double *value);
@@ -168,14 +172,14 @@ static void whole_run(int loop, size_t n, size_t rounds) {
 static uint32_t psi_places[4], d_psi_places[6];
 static double value;
 
-static int inner_start(void) { return values_inner(&t, v, t.n, NULL, 0, NULL, 0, p, t.n) == ASKED; }
+static int inner_start(void) { return values_inner_start(&t, v, t.n) == ASKED; }
 static int inner_points(void) { return values_inner_points(&t, v, t.n, p, t.n, q, 0) == 0; }
-static int loop_start(void) { return values_loop(&t, v, t.n, t.xi, 3, NULL, 0, NULL, 0, p, t.n) == ASKED; }
+static int loop_start(void) { return values_loop_start(&t, v, t.n, t.xi, 3) == ASKED; }
 static int loop_points(void) { return values_loop_points(&t, v, t.n, t.xi, 3, p, t.n, q, 3) == 0; }
-static int psi_start(void) { return values_psi(&t, v, t.n, t.xi, 3, NULL, 0, NULL, 0, &value) == ASKED; }
+static int psi_start(void) { return values_psi_start(&t, v, t.n, t.xi, 3) == ASKED; }
 static int psi_points(void) { return values_psi_points(&t, v, t.n, t.xi, 3, p, t.n, q, 0) == 0; }
 static int psi_run(void) { return values_psi(&t, v, t.n, t.xi, 3, psi_places, 4, xs, 6, &value) == ENDED; }
-static int d_psi_start(void) { return values_d_psi(&t, v, t.n, t.xi, 3, NULL, 0, NULL, 0, p, t.n) == ASKED; }
+static int d_psi_start(void) { return values_d_psi_start(&t, v, t.n, t.xi, 3) == ASKED; }
 static int d_psi_points(void) { return values_d_psi_points(&t, v, t.n, t.xi, 3, p, t.n, q, 0) == 0; }
 static int d_psi_run(void) { return values_d_psi(&t, v, t.n, t.xi, 3, d_psi_places, 6, xs, 3 * t.n + 5, p, t.n) == ENDED; }
 

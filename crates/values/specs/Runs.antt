@@ -87,6 +87,12 @@ value_after (Say.Told.ended x) was = x
 value_after (Say.Told.refused k) was = was
 value_after (Say.Told.failed c) was = was
 
+-- a run that begins at u and xi: C sees the number r
+pub record PsiBegun (t : Task) (u xi : List Float) (r : ℕ) : Type 0 where
+  pub begun : Psi.PsiLeft
+  pub starts : PsiStarts (sizes_of (sizes t)) u xi begun
+  pub number : r ≡ outcome_number begun.told
+
 -- a run that begins at u and xi is given the answers: C sees the number r, and is in place of was
 pub record PsiFed (t : Task) (u xi : List Float) (ks : List ℕ) (xs : List Float) (was is : Float) (r : ℕ) : Type 0 where
   pub begun : Psi.PsiLeft
@@ -107,6 +113,11 @@ d_psi_at l us = record { told = l.told; run = l.run; lent = us }
 
 abbrev pub d_psi_stands : Answered (Outcome PsiQuestion (Unit {0})) DPsiRun → List Float → Stands (d_psi_machine binary64)
 d_psi_stands r us = d_psi_at (d_psi_gave r) us
+
+pub record DPsiBegun (t : Task) (u xi : List Float) (r : ℕ) : Type 0 where
+  pub begun : Psi.DPsiLeft
+  pub starts : DPsiStarts (sizes_of (sizes t)) u xi begun
+  pub number : r ≡ outcome_number begun.told
 
 pub record DPsiFed (t : Task) (u xi : List Float) (ks : List ℕ) (xs us ws : List Float) (r : ℕ) : Type 0 where
   pub begun : Psi.DPsiLeft

@@ -24,6 +24,14 @@ fn feed(mut last: Answered, places: &[u32], xs: &[f64], plan: &mut [f64]) -> Ans
     last
 }
 
+// A run that begins at u: the kind of what the start told.
+#[unsafe(no_mangle)]
+pub extern "C" fn values_inner_start(task: &Task, u: &[f64]) -> u32
+    ensures { result ≡ outcome_number (inner_begun task.now u.now).told }
+{
+    kind_of(start(task.inner_settings(), u).outcome)
+}
+
 // A run that begins at u and is given the answers: the kind of what the last call told, and the plan where the run has ended.
 #[unsafe(no_mangle)]
 pub extern "C" fn values_inner(

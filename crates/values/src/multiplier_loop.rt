@@ -32,6 +32,14 @@ fn feed(
     last
 }
 
+// A run that begins at u and xi: the kind of what the start told.
+#[unsafe(no_mangle)]
+pub extern "C" fn values_loop_start(task: &Task, u: &[f64], xi: &[f64]) -> u32
+    ensures { result ≡ outcome_number (loop_begun task.now u.now xi.now).told }
+{
+    kind_of(start(task.loop_settings(), u, xi).outcome)
+}
+
 // A run that begins at u and xi and is given the answers: the kind of what the last call told; the plan, and the penalty with the multipliers, where the run
 // has ended.
 #[unsafe(no_mangle)]

@@ -3,7 +3,7 @@ ghost use Rattle.std.specs.Prelude.{◌≡◌};
 ghost use Rattle.std.specs.Float.{binary64};
 ghost use Rattle.machine.specs.Machines.{psi_machine};
 ghost use Rattle.values.specs.Feeding.{fed};
-ghost use Rattle.values.specs.Runs.{psi_stands, PsiFed, PsiShows};
+ghost use Rattle.values.specs.Runs.{psi_stands, PsiBegun, PsiFed, PsiShows};
 
 use crate::answers::{behind, reply_in, vector_in};
 use crate::task::{Task, kind_of, number_in};
@@ -22,6 +22,14 @@ fn feed(mut last: PsiAnswered, places: &[u32], xs: &[f64]) -> PsiAnswered
         rest = behind(k, rest);
     }
     last
+}
+
+// A run that begins at u and xi: the kind of what the start told.
+#[unsafe(no_mangle)]
+pub extern "C" fn values_psi_start(task: &Task, u: &[f64], xi: &[f64]) -> u32
+    ensures { PsiBegun task.now u.now xi.now result }
+{
+    kind_of(psi_start(task.sizes(), u, xi).outcome)
 }
 
 // A run that begins at u and xi and is given the answers: the kind of what the last call told, and psi where the run has ended.
