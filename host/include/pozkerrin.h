@@ -29,7 +29,7 @@
  * u less its half step, in units of u; AKKT and epsilon tolerances are in units of the gradient, delta in those of F1 and F2. The engine has no clock.
  *
  * Duties of the caller. Each pointer is to as many places as its length says, to one place and never NULL where the length is 0. The lent places
- * overlap neither each other nor the run. A run is in one call at a time; it may be copied as a struct, and the copy is a run of its own.
+ * overlap neither each other nor the run. While one call writes a run no other is in it; it may be copied as a struct, and the copy is a run of its own.
  *
  * Any struct is answered. A struct of zeros is a run that has ended: pkr_*_question gives PKR_NO_QUESTION, an answer gets 6. One that no start made is
  * answered as a run that has ended, where it has no such phase or size, or by the process that its numbers stand for. So is every number passed, NaN too.
@@ -306,19 +306,27 @@ static inline uint32_t pkr_inner_points(const pkr_inner *r, double *first, size_
   return pozkerrin_inner_points(r, first, firsts, second, seconds);
 }
 
-/* The vector in whose first places the first point of a question lies, by the phase: what pozkerrin_inner_place gives. */
+/* The vector in whose first places the first point of a question lies, by the phase and without a call: what pozkerrin_inner_place gives, by a test. */
 static inline size_t pkr_inner_place(uint32_t phase) {
   static const unsigned char places[] = {PKR_V_U, PKR_V_U, PKR_V_U, PKR_V_U, PKR_V_STEP, PKR_V_HALF, PKR_V_STEP, PKR_V_HALF, PKR_V_FPR,
       PKR_V_U, PKR_V_U, PKR_V_STEP, PKR_V_U_PLUS, PKR_V_U_PLUS, PKR_V_STEP, PKR_V_U, PKR_V_BEST};
-  return phase < sizeof places ? places[phase] : PKR_V_U;
+  return phase < sizeof places ? places[phase] : (unsigned char)PKR_V_U;
 }
 
 /* The first point of the question where it lies in the run: its n numbers stand until the next call. Nothing is to be read for TIME or after
  * the end. */
-static inline const double *pkr_inner_point(const pkr_inner *r) { return r->board + 64 * pkr_inner_place(r->inner.phase); }
+static inline const double *pkr_inner_point(const pkr_inner *r) { return r->board + 64 * (size_t)pozkerrin_inner_place(r); }
 
 /* The second point of DIRECTION where it lies. */
 static inline const double *pkr_inner_u(const pkr_inner *r) { return r->board; }
+
+/* The question, end, refusal or code that the last call told that wrote. */
+static inline uint32_t pkr_inner_told(const pkr_inner *r) { return r->inner.told; }
+
+/* Of an end: the steps after the first, the plan's norm, the cost at the plan. */
+static inline size_t pkr_inner_iterations(const pkr_inner *r) { return r->inner.end.iterations; }
+static inline double pkr_inner_norm(const pkr_inner *r) { return r->inner.end.norm_fpr; }
+static inline double pkr_inner_cost(const pkr_inner *r) { return r->inner.end.cost_value; }
 
 /* ---- The multiplier loop. */
 
@@ -327,7 +335,11 @@ static inline size_t pkr_xi_places(size_t n1, size_t n2) { return n1 == 0 && n2 
 
 /* Begins a run at u and xi: a first question is asked, or it is refused by 1, 19 or 2 to 5. */
 static inline uint32_t pkr_loop_start(pkr_loop *r, const pkr_loop_settings *s, const double *u, size_t us, const double *xi, size_t xis) {
-  return pozkerrin_loop_start(r, s, u, us, xi, xis);
+  /* s may lie in the run's own memory */
+  const pkr_loop_settings settings = {s->n, s->n1, s->n2, s->has_set_y, s->max_inner_iterations, s->max_outer_iterations, s->limited, s->tolerance,
+      s->epsilon_tolerance, s->delta_tolerance, s->initial_inner_tolerance, s->penalty_update_factor, s->epsilon_update_factor,
+      s->sufficient_decrease_coeff};
+  return pozkerrin_loop_start(r, &settings, u, us, xi, xis);
 }
 
 /* Takes an answer of any kind. The plan (n places) and xi are written at an end alone. */
@@ -370,19 +382,31 @@ static inline uint32_t pkr_loop_points(const pkr_loop *r, double *first, size_t 
  * until a question above PKR_TIME is asked, xi stays the same. */
 static inline uint32_t pkr_loop_second(const pkr_loop *r, double *second, size_t seconds) { return pozkerrin_loop_second(r, second, seconds); }
 
-/* The vector in whose first places the first point of a question lies, by the phases of the loop and of its inner solve: what pozkerrin_loop_place
- * gives. */
+/* The vector in whose first places the first point of a question lies, by the phases of the loop and of its inner solve and without a call: what
+ * pozkerrin_loop_place gives, by a test. */
 static inline size_t pkr_loop_place(uint32_t phase, uint32_t inner) {
   static const unsigned char places[] = {PKR_V_U, PKR_V_U, PKR_V_Y, PKR_V_U, PKR_V_BEST, PKR_V_Y_PLUS, PKR_V_BEST, PKR_V_U};
-  return phase == 3 ? pkr_inner_place(inner) : phase < sizeof places ? places[phase] : PKR_V_U;
+  return phase == 3 ? pkr_inner_place(inner) : phase < sizeof places ? places[phase] : (unsigned char)PKR_V_U;
 }
 
 /* The first point of the question where it lies in the run: its numbers stand until the next call. Nothing is to be read for TIME or after
  * the end. */
-static inline const double *pkr_loop_point(const pkr_loop *r) { return r->board + 64 * pkr_loop_place(r->alm.phase, r->inner.phase); }
+static inline const double *pkr_loop_point(const pkr_loop *r) { return r->board + 64 * (size_t)pozkerrin_loop_place(r); }
 
 /* The second point of DIRECTION where it lies. */
 static inline const double *pkr_loop_u(const pkr_loop *r) { return r->board; }
+
+/* The question, end, refusal or code that the last call told that wrote. */
+static inline uint32_t pkr_loop_told(const pkr_loop *r) { return r->inner.told; }
+
+/* Of an end: outer and inner iterations, the last solve's norm, the infeasibilities of y and of F2, the penalty, the cost. */
+static inline size_t pkr_loop_outer_iterations(const pkr_loop *r) { return r->alm.end.outer_iterations; }
+static inline size_t pkr_loop_inner_iterations(const pkr_loop *r) { return r->alm.end.inner_iterations; }
+static inline double pkr_loop_norm(const pkr_loop *r) { return r->alm.end.norm_fpr; }
+static inline double pkr_loop_delta_y_norm(const pkr_loop *r) { return r->alm.end.delta_y_norm; }
+static inline double pkr_loop_f2_norm(const pkr_loop *r) { return r->alm.end.f2_norm; }
+static inline double pkr_loop_penalty(const pkr_loop *r) { return r->alm.end.penalty; }
+static inline double pkr_loop_cost(const pkr_loop *r) { return r->alm.end.cost; }
 
 /* ---- psi, the penalty function. */
 
@@ -404,6 +428,12 @@ static inline uint32_t pkr_psi_points(const pkr_psi *r, double *first, size_t fi
   return pozkerrin_psi_points(r, first, firsts, second, seconds);
 }
 
+/* The question, refusal or code that the last call told that wrote. */
+static inline uint32_t pkr_psi_told(const pkr_psi *r) { return r->told; }
+
+/* Of an end: psi. */
+static inline double pkr_psi_value(const pkr_psi *r) { return r->answer; }
+
 /* ---- d_psi, its gradient. */
 
 /* Begins a run at u and xi: GRADIENT is asked, or it is refused by 1 or 2. */
@@ -424,5 +454,8 @@ static inline uint32_t pkr_d_psi_question(const pkr_d_psi *r) { return pozkerrin
 static inline uint32_t pkr_d_psi_points(const pkr_d_psi *r, double *first, size_t firsts, double *second, size_t seconds) {
   return pozkerrin_d_psi_points(r, first, firsts, second, seconds);
 }
+
+/* The question, refusal or code that the last call told that wrote. */
+static inline uint32_t pkr_d_psi_told(const pkr_d_psi *r) { return r->told; }
 
 #endif

@@ -314,6 +314,39 @@ static void places(void) {
   }
 }
 
+/* ---- What the header reads of a run is what lies there, and settings may lie in the run's own memory. */
+static void reads(void) {
+  static pkr_inner inner;
+  static pkr_loop loop;
+  static pkr_psi psi;
+  static pkr_d_psi d_psi;
+  static union {
+    pkr_loop run;
+    struct {
+      char before[96]; /* so that they lie where a start writes */
+      pkr_loop_settings settings;
+    } within;
+  } both;
+  doing = "reads";
+  inner.inner.told = 5;
+  inner.inner.end = (pkr_inner_end){7, 1.5, 2.5};
+  CHECK(pkr_inner_told(&inner) == 5 && pkr_inner_iterations(&inner) == 7 && pkr_inner_norm(&inner) == 1.5 && pkr_inner_cost(&inner) == 2.5);
+  loop.inner.told = 6;
+  loop.alm.end = (pkr_loop_end){8, 9, 1, 2, 3, 4, 5};
+  CHECK(pkr_loop_told(&loop) == 6 && pkr_loop_outer_iterations(&loop) == 8 && pkr_loop_inner_iterations(&loop) == 9 && pkr_loop_norm(&loop) == 1);
+  CHECK(pkr_loop_delta_y_norm(&loop) == 2 && pkr_loop_f2_norm(&loop) == 3 && pkr_loop_penalty(&loop) == 4 && pkr_loop_cost(&loop) == 5);
+  psi.told = 2;
+  psi.answer = 0.5;
+  d_psi.told = 3;
+  CHECK(pkr_psi_told(&psi) == 2 && pkr_psi_value(&psi) == 0.5 && pkr_d_psi_told(&d_psi) == 3);
+  const pkr_loop_settings settings = {2, 0, 1, 0, 7, 5, 1, 0.5, 0.25, 0.125, 0.75, 2, 0.5, 0.25};
+  const double u[2] = {1, 2}, xi[1] = {3};
+  both.within.settings = settings;
+  memset(&loop, 0, sizeof loop);
+  CHECK(pkr_loop_start(&both.run, &both.within.settings, u, 2, xi, 1) == pkr_loop_start(&loop, &settings, u, 2, xi, 1));
+  CHECK(both.run.alm.max_inner_iterations == 7 && both.run.alm.sufficient_decrease_coeff == 0.25 && pkr_loop_question(&both.run) == pkr_loop_question(&loop));
+}
+
 /* ---- Structs that no start made. */
 
 /* Numbers of a run of any bytes, in part such that its phase and sizes are in range. */
@@ -387,6 +420,7 @@ int main(int words, char **word) {
   static const int phases[] = {17, 8, 5, 7};
   const size_t runs = words > 1 ? strtoul(word[1], NULL, 10) : 400;
   places();
+  reads();
   doing = "a struct of zeros";
   zeros();
   for (int i = 0; i < KINDS; i++) {
