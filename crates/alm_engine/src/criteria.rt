@@ -11,7 +11,7 @@ use crate::alm_cache::Alm;
 
 // |y_plus - y| ≤ c × δ + 2^-52, from the second iteration on, where n1 > 0.
 #[tactic(auto, using(crate::proofs::Tests::settled_y_none, crate::proofs::Tests::settled_y_first, crate::proofs::Tests::settled_y_is))]
-fn multipliers_settled(s: Alm) -> bool
+pub fn multipliers_settled(s: Alm) -> bool
     ensures { result ≡ settled_y s }
 {
     let done = s.counts.outer;
@@ -23,7 +23,7 @@ fn multipliers_settled(s: Alm) -> bool
 
 // |F2| ≤ δ + 2^-52, where n2 > 0.
 #[tactic(auto, using(crate::proofs::Tests::settled_f2_none, crate::proofs::Tests::settled_f2_is))]
-fn mapping_settled(s: Alm) -> bool
+pub fn mapping_settled(s: Alm) -> bool
     ensures { result ≡ settled_f2 s }
 {
     s.set.n2 == 0 || s.numbers.f2_norm_plus <= s.set.delta_tolerance + f64::EPSILON
@@ -41,7 +41,7 @@ pub fn is_exit_criterion_satisfied(s: Alm) -> bool
 
 // Whether an infeasibility is ≤ coefficient × the former + 2^-52.
 #[tactic(auto, using(crate::proofs::Tests::decreased_is))]
-fn decreased(s: Alm, norm: f64, former: f64) -> bool
+pub fn decreased(s: Alm, norm: f64, former: f64) -> bool
     ensures { result ≡ L.decreased binary64 (loop_settings_of s.set) norm former }
 {
     norm <= s.set.sufficient_decrease_coeff * former + f64::EPSILON
@@ -49,7 +49,7 @@ fn decreased(s: Alm, norm: f64, former: f64) -> bool
 
 // Whether each infeasibility present has decreased; with neither present none has.
 #[tactic(auto, using(crate::proofs::Tests::stalls_none, crate::proofs::Tests::stalls_f2, crate::proofs::Tests::stalls_y, crate::proofs::Tests::stalls_both, crate::proofs::Tests::stalls_not))]
-fn is_penalty_stall_criterion(s: Alm) -> bool
+pub fn is_penalty_stall_criterion(s: Alm) -> bool
     ensures { (l : List Float) → result ≡ L.stalls binary64 (loop_settings_of s.set) (found_all (loop_run s l)) }
 {
     let y_decreased = decreased(s, s.numbers.delta_y_norm_plus, s.numbers.delta_y_norm);

@@ -26,7 +26,7 @@ use starts::sizes::{mappings_right, sizes_right};
 
 // The tolerances, the factors and the decrease coefficient.
 #[tactic(auto, unfolding(model::specs::Refusals::loop_numbers_right))]
-fn numbers_right(set: AlmSettings) -> bool
+pub fn numbers_right(set: AlmSettings) -> bool
     ensures { result ≡ R.loop_numbers_right binary64 (loop_settings_of set) }
 {
     tolerance_right(set.tolerance)
@@ -40,7 +40,7 @@ fn numbers_right(set: AlmSettings) -> bool
 
 // c finite and above 0, and every y finite.
 #[tactic(auto, unfolding(model::specs::Refusals::xi_right))]
-fn xi_right(xi: &[f64]) -> bool
+pub fn xi_right(xi: &[f64]) -> bool
     ensures { result ≡ R.xi_right xi.now }
 {
     match xi {
