@@ -2,3 +2,4 @@ pub mod Waits
 pub mod Answers
 pub mod Starts
 pub mod Shows
+pub mod Sizes

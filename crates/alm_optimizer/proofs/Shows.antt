@@ -156,7 +156,7 @@ unfolding shown
 shown_by none xs ys = refl
 shown_by (some q) xs ys = refl
 
-xi_places : (s : AlmSettings) (c : Float) (y : List Float) → length y ≡ s.n1 → length (xi_of (loop_settings_of s) c y) ≡ xi_length s.n1 s.n2
+pub xi_places : (s : AlmSettings) (c : Float) (y : List Float) → length y ≡ s.n1 → length (xi_of (loop_settings_of s) c y) ≡ xi_length s.n1 s.n2
 unfolding xi_of xi_length
 xi_places s c y e = by (eqb s.n1 0 && eqb s.n2 0)
   where

@@ -1,2 +1,4 @@
 pub mod Calls
 pub mod Points
+pub mod Tests
+pub mod Sizes

@@ -7,6 +7,7 @@ ghost use Rattle.panoc_engine.specs.Told.{number_of};
 ghost use Rattle.alm_engine.specs.Values.{loop_settings_of};
 ghost use Rattle.alm_engine.specs.LoopRuns.{loop_run, loop_stepped};
 ghost use Rattle.alm_optimizer.specs.Calls.{loop_blank, loop_gave, no_places};
+ghost use Rattle.alm_optimizer.specs.Tests as Tests;
 
 use alm_engine::alm_cache::{
     Alm, AlmAnswered, AlmCounts, AlmNumbers, AlmOutcome, AlmPhase, AlmRun, AlmSettings, AlmStepped,
@@ -24,18 +25,41 @@ use starts::sizes::{mappings_right, sizes_right};
 
 // ---- why a start is refused
 
-// The tolerances, the factors and the decrease coefficient.
-#[tactic(auto, unfolding(model::specs::Refusals::loop_numbers_right))]
-pub fn numbers_right(set: AlmSettings) -> bool
-    ensures { result ≡ R.loop_numbers_right binary64 (loop_settings_of set) }
+// M and K.
+#[tactic(auto, unfolding(crate::specs::Tests::limits_right))]
+pub fn limits_right(set: AlmSettings) -> bool
+    ensures { result ≡ Tests.limits_right set }
+{
+    limit_right(10000, set.max_inner_iterations) && limit_right(1000, set.max_outer_iterations)
+}
+
+// The norm's tolerance, ε, δ and the AKKT tolerance.
+#[tactic(auto, unfolding(crate::specs::Tests::tolerances_right))]
+pub fn tolerances_right(set: AlmSettings) -> bool
+    ensures { result ≡ Tests.tolerances_right set }
 {
     tolerance_right(set.tolerance)
         && tolerance_right(set.epsilon_tolerance)
         && tolerance_right(set.delta_tolerance)
         && tolerance_right(set.initial_inner_tolerance)
-        && factor_right(set.penalty_update_factor)
+}
+
+// The factors and the decrease coefficient.
+#[tactic(auto, unfolding(crate::specs::Tests::factors_right))]
+pub fn factors_right(set: AlmSettings) -> bool
+    ensures { result ≡ Tests.factors_right set }
+{
+    factor_right(set.penalty_update_factor)
         && fraction_right(set.epsilon_update_factor)
         && fraction_right(set.sufficient_decrease_coeff)
+}
+
+// All but the limits.
+#[tactic(auto, unfolding(model::specs::Refusals::loop_numbers_right, crate::specs::Tests::tolerances_right, crate::specs::Tests::factors_right))]
+pub fn numbers_right(set: AlmSettings) -> bool
+    ensures { result ≡ R.loop_numbers_right binary64 (loop_settings_of set) }
+{
+    tolerances_right(set) && factors_right(set)
 }
 
 // c finite and above 0, and every y finite.
@@ -50,7 +74,7 @@ pub fn xi_right(xi: &[f64]) -> bool
 }
 
 // Why a start at a lent u and xi is refused: 1, 19, 2, 3, 4 or 5 of the table.
-#[tactic(auto, unfolding(model::specs::Refusals::loop_refusal, model::specs::Refusals::unless))]
+#[tactic(auto, unfolding(model::specs::Refusals::loop_refusal, model::specs::Refusals::unless, crate::specs::Tests::limits_right))]
 pub fn start_refusal(set: AlmSettings, u: &[f64], xi: &[f64]) -> Option<Refusal>
     ensures { number_of result ≡ R.loop_refusal binary64 (loop_settings_of set) u.now xi.now }
 {
@@ -63,9 +87,7 @@ pub fn start_refusal(set: AlmSettings, u: &[f64], xi: &[f64]) -> Option<Refusal>
     if !mappings_right(set.n1, set.n2, set.has_set_y, xi.len()) {
         return Some(Refusal::Mappings);
     }
-    if !(limit_right(10000, set.max_inner_iterations)
-        && limit_right(1000, set.max_outer_iterations))
-    {
+    if !limits_right(set) {
         return Some(Refusal::Limits);
     }
     if !numbers_right(set) {

@@ -1,7 +1,7 @@
 // What a start tests of its sizes.
 #![tactic(auto)]
 
-ghost use Rattle.std.specs.Prelude.{◌≡◌, ◌+◌, eqb};
+ghost use Rattle.std.specs.Prelude.{◌≡◌, ◌≤◌, ◌+◌, eqb};
 ghost use Rattle.model.specs.Refusals as R;
 
 // n from 1 to 64, and a lent u of n places.
@@ -10,6 +10,15 @@ pub fn sizes_right(n: usize, us: usize) -> bool
     ensures { result ≡ R.sizes_right n us }
 {
     (1..=64).contains(&n) && us == n
+}
+
+// How many places a xi has: none where n1 = n2 = 0, else the penalty's and n1.
+#[tactic(auto, unfolding(model::specs::Refusals::xi_length))]
+pub fn xi_places(n1: usize, n2: usize) -> usize
+    requires { n1 ≤ 32 }
+    ensures { result ≡ R.xi_length n1 n2 }
+{
+    if n1 == 0 && n2 == 0 { 0 } else { n1 + 1 }
 }
 
 // Whether so many places hold the penalty and n1 multipliers.
