@@ -10,7 +10,7 @@ use panoc_engine::outcome::Refusal;
 
 // c, 0 where xi is empty.
 #[tactic(auto, using(crate::proofs::Ends::penalty_empty, crate::proofs::Ends::penalty_there))]
-fn penalty_of(s: Alm) -> f64
+pub fn penalty_of(s: Alm) -> f64
     ensures { result ≡ L.penalty_of (loop_settings_of s.set) s.numbers.penalty }
 {
     if s.set.n1 == 0 && s.set.n2 == 0 {

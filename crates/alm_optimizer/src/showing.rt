@@ -2,6 +2,7 @@
 ghost use Rattle.std.specs.Prelude.{◌≡◌, ◌≤◌, List, [], Float, length, eqb};
 ghost use Rattle.machine.specs.LoopAnswer.{points, second_alone, question_of};
 ghost use Rattle.alm_engine.specs.LoopRuns.{loop_run};
+ghost use Rattle.alm_optimizer.specs.Sizes.{carries_xi, first_places_at, inner_second, second_places_at};
 ghost use Rattle.alm_optimizer.specs.Points.{point, carried_at, inner_points, own_points, second_filled, second_places, pair_of, lying, roomy, shows};
 
 use crate::answering::fill_xi;
@@ -11,9 +12,9 @@ use board::copies::give;
 use board::{BEST, U, Y, Y_PLUS};
 use panoc_engine::answers::in_range;
 use panoc_engine::outcome::Refusal;
-use panoc_engine::panoc_cache::Phase;
-use panoc_engine::points::{first_places, place_of};
-use starts::sizes::xi_fits;
+use panoc_engine::panoc_cache::{Phase, Solve};
+use panoc_engine::points as inner;
+use starts::sizes::{xi_fits, xi_places};
 
 // The second point of a question: none, u, or xi with this penalty.
 #[derive(Clone, Copy)]
@@ -66,6 +67,21 @@ fn carried_at(penalty: f64, phase: Phase) -> Second
     }
 }
 
+// Whether a question of the inner solve comes with xi, at a phase.
+#[tactic(auto, using(ieee::proofs::Special::zero_bits))]
+pub fn carries_xi_at(phase: Phase) -> bool
+    ensures { result ≡ carries_xi phase }
+{
+    matches!(carried_at(0.0, phase), Second::Xi(_))
+}
+
+// The same of a run of it.
+pub fn carries_xi(s: Solve) -> bool
+    ensures { result ≡ carries_xi s.phase }
+{
+    carries_xi_at(s.phase)
+}
+
 // Its points.
 fn inner_points(n: usize, penalty: f64, phase: Phase) -> Option<Located>
     ensures { result ≡ inner_points n penalty phase }
@@ -74,8 +90,8 @@ fn inner_points(n: usize, penalty: f64, phase: Phase) -> Option<Located>
         return None;
     }
     point(
-        place_of(phase),
-        first_places(n, phase),
+        inner::place_of(phase),
+        inner::first_places(n, phase),
         carried_at(penalty, phase),
     )
 }
@@ -135,6 +151,46 @@ fn give_second(second: Second, board: &[f64], out: &mut [f64])
         Second::Nothing => {}
         Second::Iterate => give(board, U, out),
         Second::Xi(penalty) => fill_xi(penalty, board, Y, out),
+    }
+}
+
+// How many places the first point of a question has.
+pub fn first_places(s: Alm) -> usize
+    ensures { result ≡ first_places_at s s.phase }
+{
+    match s.phase {
+        AlmPhase::Over | AlmPhase::Time => 0,
+        AlmPhase::Inner => inner::first_places(s.solve.set.n, s.solve.phase),
+        AlmPhase::ProjectY | AlmPhase::ProjectC => s.set.n1,
+        AlmPhase::F1 | AlmPhase::F2 | AlmPhase::LastCost => s.set.n,
+    }
+}
+
+// How many the second has, at Inner.
+fn inner_second(s: Alm) -> usize
+    requires { s.set.n1 ≤ 32 }
+    ensures { result ≡ inner_second s }
+{
+    if carries_xi(s.solve) {
+        return xi_places(s.set.n1, s.set.n2);
+    }
+    inner::second_places(s.solve.set.n, s.solve.phase)
+}
+
+// How many the second has.
+pub fn second_places(s: Alm) -> usize
+    requires { s.set.n1 ≤ 32 }
+    ensures { result ≡ second_places_at s s.phase }
+{
+    match s.phase {
+        AlmPhase::Inner => inner_second(s),
+        AlmPhase::LastCost => xi_places(s.set.n1, s.set.n2),
+        AlmPhase::Over
+        | AlmPhase::Time
+        | AlmPhase::ProjectY
+        | AlmPhase::F1
+        | AlmPhase::ProjectC
+        | AlmPhase::F2 => 0,
     }
 }
 

@@ -1,5 +1,6 @@
 // What a run of the loop waits for, and why an answer is refused.
 ghost use Rattle.std.specs.Prelude.{◌≡◌, List, Float};
+ghost use Rattle.machine.specs.Waits.{waiting};
 ghost use Rattle.machine.specs.LoopRest.{sized, counts, is_last, sound};
 ghost use Rattle.machine.specs.LoopCalls.{lent_right};
 ghost use Rattle.machine.specs.LoopAnswer.{own_at, wanted_by, refused_by};
@@ -11,12 +12,12 @@ ghost use Rattle.alm_engine.specs.LoopRuns.{loop_run};
 use alm_engine::alm_cache::{Alm, AlmPhase, AlmSettings};
 use panoc_engine::outcome::Refusal;
 use panoc_engine::panoc_cache::Reply;
-use panoc_engine::refusals::{Wanted, refusal};
+use panoc_engine::refusals::{Wanted, refusal, waits};
 use starts::sizes::xi_fits;
 
 // Sizes as document 01 has them.
 #[tactic(auto, unfolding(machine::specs::LoopRest::sized, alm_engine::specs::LoopRuns::loop_run))]
-fn is_sized(s: Alm) -> bool
+pub fn is_sized(s: Alm) -> bool
     ensures { (l : List Float) → result ≡ sized (loop_run s l) }
 {
     s.set.n <= 64 && s.set.n1 <= 32 && s.set.n2 <= 32 && s.set.max_inner_iterations <= 10000
@@ -24,7 +25,7 @@ fn is_sized(s: Alm) -> bool
 
 // Counters in range, and an inner solve of the same n.
 #[tactic(auto, unfolding(machine::specs::LoopRest::counts, alm_engine::specs::LoopRuns::loop_run))]
-fn is_counted(s: Alm) -> bool
+pub fn is_counted(s: Alm) -> bool
     ensures { (l : List Float) → result ≡ counts (loop_run s l) }
 {
     let c = s.counts;
@@ -81,8 +82,15 @@ pub fn wants(s: Alm) -> Option<Wanted>
     wants_own(s.set, phase)
 }
 
+// Whether the run waits for an answer.
+pub fn is_waiting(s: Alm) -> bool
+    ensures { (l : List Float) → result ≡ waiting (wanted_by (loop_run s l)) }
+{
+    waits(wants(s))
+}
+
 // Whether the lent u and xi have the lengths asked.
-fn lent_fits(set: AlmSettings, us: usize, xs: usize) -> bool
+pub fn lent_fits(set: AlmSettings, us: usize, xs: usize) -> bool
     ensures { result ≡ lent_right (loop_settings_of set) us xs }
 {
     us == set.n && xi_fits(set.n1, set.n2, xs)

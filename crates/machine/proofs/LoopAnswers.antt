@@ -1,5 +1,5 @@
 -- What the public calls of the multiplier loop leave meets what they are to give. Assumes nothing.
-use Rattle.std.specs.Prelude.{ℕ, zero, suc, ◌-◌, ◌<◌, ◌≤◌, ◌≡◌, refl, Bool, true, false, ◌&&◌, cond, List, ltb, leb, Float, length}
+use Rattle.std.specs.Prelude.{ℕ, zero, suc, ◌-◌, ◌<◌, ◌≤◌, ◌≡◌, refl, Bool, true, false, ◌&&◌, cond, List, [], ltb, leb, Float, length}
 use Rattle.std.proofs.Common.{sym, ap, ◌∙◌, subst, arith, leb-true, ltb-true}
 use Rattle.std.proofs.Math.Option.{Option, none, some}
 use Rattle.std.specs.Float.{Format}
@@ -21,8 +21,9 @@ use Rattle.machine.specs.LoopRun.{Phase, Run, Left, state_of, fails}
 use Rattle.machine.specs.LoopMoves as Move
 use Rattle.machine.specs.LoopMoves.{begins}
 use Rattle.machine.specs.LoopRest.{is_last, sound, Sound, Ready, sized, resume, rest, Goes, Takes}
-use Rattle.machine.specs.LoopCalls.{lent_right, refusal, Answers, Starts, first_point, second_point, Points}
-use Rattle.machine.specs.LoopAnswer.{wanted_at, wanted_by, carrying, question_at, question_of, turns, refused_by, plan_after, xi_after, answered_at, answered, answer, answer_any, begun, no_run, start, points}
+use Rattle.machine.specs.LoopCalls.{lent_right, refusal, Answers, Starts, first_point, second_point, Points, second_refusal, Second}
+use Rattle.machine.specs.LoopAnswer.{wanted_at, wanted_by, carrying, question_at, question_of, turns, refused_by, plan_after, xi_after, answered_at, answered, answer, answer_any, begun, no_run, start, points, no_point, second_alone}
+use Rattle.machine.specs.Shown.{points_refusal}
 use Rattle.machine.proofs.ShownLaws.{shown_shows}
 use Rattle.machine.proofs.WaitLaws.{none_taken, follows_taken}
 use Rattle.machine.proofs.InnerAnswers as InnerAnswers
@@ -265,3 +266,19 @@ module _ (f : Format) where
   pub shows : (r : Run) (xs ys : List Float) → Points f r xs (points r xs ys).first ys (points r xs ys).second (points r xs ys).number
   unfolding points
   shows r xs ys = rw (question_is r) (shown_shows first_point second_point xs ys (question_of r))
+
+  -- the second point alone
+  second_number : (o : Option LoopQuestion) (ys : List Float) → points_refusal no_point second_point o 0 (length ys) ≡ second_refusal o (length ys)
+  unfolding points_refusal second_refusal
+  second_number none ys = refl
+  second_number (some q) ys = refl
+
+  pub second_shows : (r : Run) (ys : List Float) → Second f r ys (second_alone r ys).second (second_alone r ys).number
+  unfolding second_alone
+  second_shows r ys =
+      let h = shown_shows no_point second_point [] ys (question_of r) in
+      record {
+        number = h.number ∙ second_number (question_of r) ys ∙ ap (λ (o : Option LoopQuestion). second_refusal o (length ys)) (sym (question_is r));
+        kept = λ m e. (h.kept m e).1;
+        point = λ e q w. (h.points e q (sym (question_is r) ∙ w)).1;
+      }

@@ -1,10 +1,10 @@
 -- What an answer leaves of a run of any kind, where each move is what the process comes to. Assumes nothing.
-use Rattle.std.specs.Prelude.{ℕ, ◌≡◌, Bool, true, false, List, Float}
+use Rattle.std.specs.Prelude.{ℕ, ◌≡◌, refl, Bool, true, false, List, Float}
 use Rattle.std.proofs.Common.{arith}
 use Rattle.std.proofs.Math.Option.{Option, none, some}
 use Rattle.model.specs.Process.{Kind, Answer, failed, Process, ask, stop}
 use Rattle.model.specs.Refusals.{Reply, wanted, given, may_fail, as_number, as_vector, as_decision, fits_kind, answer_refusal, accept, replied, go_on}
-use Rattle.machine.specs.Waits.{Moves, taken, Follows}
+use Rattle.machine.specs.Waits.{Moves, taken, Follows, Stays}
 
 seven_not : {X : Type 0} → ◌≡◌ {A = ℕ} 7 0 → X
 seven_not e = absurd (omega arith)
@@ -13,6 +13,13 @@ seven_not e = absurd (omega arith)
 pub none_taken : {X : Type 0} (a : Reply) (vs : ℕ) (lent : Bool) → answer_refusal none a vs lent ≡ 0 → X
 unfolding answer_refusal
 none_taken a vs lent z = absurd (omega arith)
+
+-- what a refused call leaves: all that it does not write; one that is not refused says nothing
+pub unwritten : {R : Type 0} (k : ℕ) (x : R) → Stays k x x
+unwritten k x = λ j e. refl
+
+pub not_refused : {R : Type 0} (k : ℕ) (x y : R) → k ≡ 0 → Stays k x y
+not_refused k x y z = λ j e. absurd (omega (arith, z, e))
 
 module _ {Q H L : Type 0} (Comes : Process Q H → L → Type 0) where
   -- the process waits for what is said

@@ -1,5 +1,6 @@
 -- What the public calls of the multiplier loop give, in terms of the process that is left of a run. Definitions only.
-use Rattle.std.specs.Prelude.{ℕ, suc, ◌≡◌, Bool, ◌&&◌, List, [], eqb, Float, length}
+use Rattle.std.specs.Prelude.{ℕ, suc, ◌≡◌, Bool, ◌&&◌, cond, List, [], eqb, Float, length}
+use Rattle.std.proofs.Math.Option.{Option, none, some}
 use Rattle.std.specs.Float.{Format}
 use Rattle.model.specs.Process.{Question, LoopQuestion, Loop}
 use Rattle.model.specs.Loop.{LoopSettings}
@@ -78,3 +79,14 @@ direction_point (LoopQuestion.cost u xi) = []
 -- points: xs, ys and xs', ys' are the lent slices before and after
 abbrev pub Points : Format → Run → List Float → List Float → List Float → List Float → ℕ → Type 0
 Points f r xs xs' ys ys' k = Shows first_point second_point (asking (rest f r)) xs xs' ys ys' k
+
+-- the second point alone: 6 where the run has ended, 8 where the slice is not as long as that point, else 0
+unfoldable pub second_refusal : Option LoopQuestion → ℕ → ℕ
+second_refusal none ys = 6
+second_refusal (some q) ys = cond (eqb ys (length (second_point q))) 0 8
+
+-- ys and ys' are the lent slice before and after
+pub record Second (f : Format) (r : Run) (ys ys' : List Float) (k : ℕ) : Type 0 where
+  pub number : k ≡ second_refusal (asking (rest f r)) (length ys)
+  pub kept : (m : ℕ) → k ≡ suc m → ys' ≡ ys
+  pub point : k ≡ 0 → (q : LoopQuestion) → asking (rest f r) ≡ some q → ys' ≡ second_point q

@@ -1,5 +1,5 @@
 -- The numbers that C sees and gives, of the loop's own enums; the rest is as in `Numbers`. Definitions only.
-use Rattle.std.specs.Prelude.{ℕ, List, [], ◌∷◌, get_or}
+use Rattle.std.specs.Prelude.{ℕ, List, [], ◌∷◌, ◌++◌, map, get_or}
 use Rattle.machine.specs.Numbers as Inner
 use Rattle.machine.specs.LoopRun.{Phase, Asked, Numbers}
 
@@ -12,6 +12,13 @@ question_number Asked.f1 = 8
 question_number Asked.project_c = 9
 question_number Asked.f2 = 10
 question_number Asked.cost = 11
+
+-- the question that a number tells; one of no question is TIME
+abbrev pub questions : List Asked
+questions = map Asked.inner Inner.questions ++ (Asked.time ∷ Asked.project_y ∷ Asked.f1 ∷ Asked.project_c ∷ Asked.f2 ∷ Asked.cost ∷ [])
+
+abbrev pub question_of : ℕ → Asked
+question_of m = get_or questions m Asked.time
 
 abbrev pub end_number : Numbers → ℕ
 end_number e = Inner.status_number e.status

@@ -45,6 +45,13 @@ question_number (Asked.direction false) = 3
 question_number (Asked.direction true) = 4
 question_number Asked.time = 5
 
+-- the question that a number tells; one of no question is TIME
+abbrev pub questions : List Asked
+questions = Asked.cost ∷ Asked.gradient ∷ Asked.project ∷ Asked.direction false ∷ Asked.direction true ∷ Asked.time ∷ []
+
+abbrev pub question_of : ℕ → Asked
+question_of m = get_or questions m Asked.time
+
 abbrev pub end_number : Numbers → ℕ
 end_number e = status_number e.status
 

@@ -1,5 +1,5 @@
 -- The numbers that C sees and gives, of the enums of psi and d_psi; the rest is as in `Numbers`. Definitions only.
-use Rattle.std.specs.Prelude.{ℕ, List, [], ◌∷◌, get_or}
+use Rattle.std.specs.Prelude.{ℕ, List, [], ◌∷◌, ◌++◌, replicate, get_or}
 use Rattle.machine.specs.PsiRun.{Asked, PsiPhase, DPsiPhase}
 
 -- the questions have the numbers that they have in the loop
@@ -11,6 +11,13 @@ question_number Asked.project_c = 9
 question_number Asked.f2 = 10
 question_number Asked.jf1t = 12
 question_number Asked.jf2t = 13
+
+-- the question that a number tells; one of no question is COST
+abbrev pub others : List Asked
+others = replicate 6 Asked.cost ++ (Asked.f1 ∷ Asked.project_c ∷ Asked.f2 ∷ Asked.cost ∷ Asked.jf1t ∷ Asked.jf2t ∷ [])
+
+abbrev pub question_of : ℕ → Asked
+question_of m = get_or (Asked.cost ∷ Asked.gradient ∷ others) m Asked.cost
 
 -- the phases of psi; a number of none is over
 abbrev pub psi_phase_number : PsiPhase → ℕ

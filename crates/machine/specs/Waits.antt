@@ -5,6 +5,11 @@ use Rattle.model.specs.Process.{Kind, Answer, refused, Process, ask, stop}
 use Rattle.model.specs.Refusals.{Reply, as_number, as_vector, as_decision, answer_refusal}
 use Rattle.model.specs.Carry.{moved_by}
 
+-- whether an answer is waited for
+abbrev pub waiting : Option Kind → Bool
+waiting none = false
+waiting (some k) = true
+
 -- what follows each answer of the kind that is waited for; nothing where the run has ended
 abbrev pub Moves : Type 0 → Option Kind → Type 0
 Moves L none = Unit {0}
@@ -28,6 +33,10 @@ Follows {Q} {H} Comes (some k) move p = (q : Q) × (continue : Answer k → Proc
 abbrev pub unless_refused : {L : Type 0} → ℕ → (ℕ → L) → L → L
 unless_refused zero turns l = l
 unless_refused (suc k) turns l = turns (suc k)
+
+-- where the table refuses a call by the number k, 0 for none, what it leaves, y, is what was there, x
+abbrev pub Stays : {R : Type 0} → ℕ → R → R → Type 0
+Stays k x y = (j : ℕ) → k ≡ suc j → y ≡ x
 
 -- ---- any answer that C can give: none is of a kind of no name
 

@@ -1,6 +1,7 @@
 // Which handler takes an answer, and what a call gives then.
 ghost use Rattle.std.specs.Prelude.{◌≡◌, ◌≤◌, true, List, Float, length};
 ghost use Rattle.std.specs.Float.{binary64};
+ghost use Rattle.machine.specs.Waits.{waiting};
 ghost use Rattle.machine.specs.InnerAnswer.{answered, turns, wanted_at, wanted_by};
 ghost use Rattle.machine.specs.InnerRest.{sound};
 ghost use Rattle.model.specs.Refusals.{answer_refusal};
@@ -18,7 +19,7 @@ use crate::panoc_cache::{
     Costed, Doubled, Estimated, Moved, Outcome, Phase, Question, Reply, Searched, Shifted, Solve,
     Stepped, Tested,
 };
-use crate::refusals::Wanted;
+use crate::refusals::{Wanted, waits};
 use crate::step::on_time;
 
 // ---- what an answer changes, put into the run
@@ -246,6 +247,13 @@ pub fn wants(s: Solve) -> Option<Wanted>
     } else {
         None
     }
+}
+
+// Whether the run waits for an answer.
+pub fn is_waiting(s: Solve) -> bool
+    ensures { (l : List Float) → result ≡ waiting (wanted_by (run_of s l)) }
+{
+    waits(wants(s))
 }
 
 // ---- any answer that nothing refuses

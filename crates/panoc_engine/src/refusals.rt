@@ -2,6 +2,7 @@
 // the refusal, and goes on where there is none.
 ghost use Rattle.std.specs.Prelude.{◌≡◌, cond, ◌&&◌, eqb};
 ghost use Rattle.model.specs.Refusals.{answer_refusal};
+ghost use Rattle.machine.specs.Waits.{waiting};
 ghost use Rattle.panoc_engine.specs.Told.{number_of};
 ghost use Rattle.panoc_engine.specs.Values.{reply_of, kind_of};
 
@@ -16,6 +17,13 @@ pub enum Wanted {
     Vector(usize),
     Direction(usize),
     Decision,
+}
+
+// Whether an answer is waited for.
+pub fn waits(wanted: Option<Wanted>) -> bool
+    ensures { result ≡ waiting (kind_of wanted) }
+{
+    wanted.is_some()
 }
 
 // 8 where a length is wrong.
