@@ -9,3 +9,4 @@ pub mod Kept
 pub mod Carried
 pub mod Accepted
 pub mod Lent
+pub mod Exact

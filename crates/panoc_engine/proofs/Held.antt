@@ -1,14 +1,15 @@
 -- What the leaves leave of the vectors of a board, from their promises. Assumes nothing.
 use Rattle.std.proofs.Common.{◌≡◌, refl, sym, ap, subst, ◌∙◌, Bool, true, false, cond, ℕ, ◌+◌, ◌*◌, ◌≤◌, List, length, Float, arith}
 use Rattle.std.specs.Float.{Format}
-use Rattle.std.specs.Float.Ieee.{sub}
+use Rattle.std.specs.Float.Ieee.{lt, sub}
 use Rattle.model.specs.Constants.{one}
 use Rattle.model.specs.Vectors.{minus, less_times, shifted}
 use Rattle.model.proofs.Facts.{zip_size, minus_size, shifted_size}
 use Rattle.board.specs.Formulas.{residual, candidate}
 use Rattle.board.specs.Board.{vector, write, Board, board_of, U, PLUS, GRADIENT, PREVIOUS, STEP, HALF, FPR, DIRECTION, BEST}
-use Rattle.panoc_engine.specs.Runs.{norm_at}
-use Rattle.board.proofs.Writes.{length_vector, length_write}
+use Rattle.model.specs.State.{keep}
+use Rattle.panoc_engine.specs.Runs.{norm_at, best_at}
+use Rattle.board.proofs.Writes.{length_vector, length_write, vector_written}
 use Rattle.board.proofs.InnerBoard.{write_u, write_plus, write_gradient, write_previous, write_step, write_half, write_fpr, write_direction, write_best}
 
 -- the board l holds the vectors b, of n places each
@@ -231,3 +232,14 @@ module _ (n : ℕ) (l l' : List Float) (m : n ≤ 64) (p : 576 ≤ length l) whe
       let b = holds n l m p in
       let d = wrote_best b (vector HALF n l) (length_vector HALF n l) e in
       rw (in_u d, in_half d, in_u b, in_half b) refl
+
+  -- a half step is scored
+  pub best_kept : (x y : Float) → l' ≡ write BEST (vector HALF n l) l → lt x y ≡ true → best_at n l' x ≡ keep (best_at n l y) (vector HALF n l) x
+  unfolding keep
+  best_kept x y e t = let d = ap (vector BEST n) e ∙ vector_written BEST n (vector HALF n l) l (length_vector HALF n l) (omega (arith, m, p)) in rw (d, t) refl
+
+  pub best_stays : (x y : Float) → l' ≡ l → lt x y ≡ false → best_at n l' y ≡ keep (best_at n l y) (vector HALF n l) x
+  unfolding keep
+  best_stays x y e t = rw (e, t) refl
+
+pub ruleset best = (norm_best, best_kept, best_stays)

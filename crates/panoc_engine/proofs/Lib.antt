@@ -9,3 +9,4 @@ pub mod Answered
 pub mod Moves
 pub mod Numbers
 pub mod Asks
+pub mod Exact

@@ -3,7 +3,8 @@ use Rattle.std.specs.Prelude.{ℕ, ◌≡◌, ◌-◌, ◌≤◌, Bool, true, fa
 use Rattle.ieee.specs.Sums.{squares, norm}
 use Rattle.model.specs.Vectors.{minus, dot}
 use Rattle.board.specs.Formulas.{residual}
-use Rattle.board.specs.Board.{Board, board_of, vector, PLUS, GRADIENT, HALF, FPR}
+use Rattle.model.specs.State.{Best}
+use Rattle.board.specs.Board.{Board, board_of, vector, PLUS, GRADIENT, HALF, FPR, BEST}
 use Rattle.machine.specs.InnerRun as M
 use Rattle.machine.specs.InnerMoves as Move
 use Rattle.std.specs.Float.{binary64}
@@ -137,6 +138,10 @@ pub record Fits (s : Solve) (l : List Float) : Type 0 where
 -- the norm of the half step's residual, which u and the half step give
 abbrev pub norm_at : ℕ → List Float → Float
 norm_at n l = norm binary64 (residual binary64 n l)
+
+-- the best half step, whose norm is x
+abbrev pub best_at : ℕ → List Float → Float → Best
+best_at n l x = record { point = vector BEST n l; norm = x }
 
 -- that residual lies in its place, x is its norm and z its product with the gradient
 pub record ResidualLies (x z : Float) (n : ℕ) (l : List Float) : Type 0 where

@@ -4,11 +4,11 @@ ghost use Rattle.std.specs.Float.{binary64};
 ghost use Rattle.machine.specs.InnerMoves.{cost, gradient, shifted_gradient};
 ghost use Rattle.panoc_engine.specs.Runs.{run_of, Stands, costed, shifting, estimated};
 
-use crate::lipschitz_estimator::{gamma_of, sigma_of};
+use crate::lipschitz_estimator::{both_finite, gamma_of, sigma_of};
 use crate::outcome::Refusal;
 use crate::panoc_cache::{Costed, Estimated, Gammas, Moved, Phase, Shifted, Solve};
 use board::GRADIENT;
-use board::copies::{is_finite_at, take_into};
+use board::copies::take_into;
 use board::points::{less_times_into, shift_into};
 use board::sums::norm2_diff;
 
@@ -44,8 +44,7 @@ pub fn on_shifted(v: &[f64], s: Solve, board: &mut [f64]) -> Estimated
     ensures { estimated s result board.new ≡ shifted_gradient binary64 v.now (run_of s board.old) }
 {
     let n = s.set.n;
-    let finite = numeric::is_finite(s.cost_value) & is_finite_at(board, GRADIENT, n);
-    if !finite {
+    if !both_finite(s.cost_value, board, n) {
         let gammas = s.gammas;
         return Estimated {
             moved: Moved::Refused(Refusal::FirstCost),

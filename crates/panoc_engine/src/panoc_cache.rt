@@ -1,7 +1,8 @@
 // The records of an inner solve: what it is given, where it stands, and what an answer changes of it.
 ghost use Rattle.std.specs.Prelude.{◌≡◌, ◌≤◌, cond, eqb, length};
 ghost use Rattle.std.specs.Float.Ieee.{lt};
-ghost use Rattle.panoc_engine.specs.Runs.{norm_at};
+ghost use Rattle.model.specs.State.{keep};
+ghost use Rattle.panoc_engine.specs.Runs.{norm_at, best_at};
 ghost use Rattle.board.specs.Board.{GRADIENT, PREVIOUS, HALF, BEST, vector, write};
 
 use crate::outcome::Refusal;
@@ -244,12 +245,13 @@ pub fn cache_previous_gradient(done: usize, board: &mut [f64], n: usize)
 }
 
 // Scores the half step, of this norm, and gives the least norm: it is kept only if its norm is strictly less than the least so far.
-#[tactic(auto, using(crate::proofs::Held::norm_best))]
+#[tactic(auto, using(crate::proofs::Held::best))]
 pub fn cache_best_half_step(norm: f64, least: f64, board: &mut [f64], n: usize) -> f64
     requires count { n ≤ 64 }
     requires places { 576 ≤ length board.old }
     ensures left { board.new ≡ cond (lt norm least) (write BEST (vector HALF n board.old) board.old) board.old }
     ensures least { result ≡ cond (lt norm least) norm least }
+    ensures kept { best_at n board.new result ≡ keep (best_at n board.old least) (vector HALF n board.old) norm }
     ensures norm { norm_at n board.new ≡ norm_at n board.old }
 {
     if norm < least {
