@@ -10,15 +10,18 @@ use Rattle.board.specs.Board.{vector, write}
 use Rattle.board.proofs.Writes.{length_vector, length_write, vector_written}
 use Rattle.board.proofs.Loops.{length_minus, length_plus_times, length_plus_over}
 use Rattle.machine.specs.Told as Say
+use Rattle.machine.specs.Waits.{Stays}
+use Rattle.machine.proofs.WaitLaws.{unwritten, not_refused}
 use Rattle.machine.specs.PsiRun as M
 use Rattle.machine.specs.PsiMoves.{with_gradient, with_d, added, d_psi_move, d_psi_ask_f2, d_psi_got_gradient, d_psi_got_f1, d_psi_got_projection, d_psi_got_jf1t, d_psi_got_f2, d_psi_got_jf2t}
-use Rattle.machine.specs.PsiCalls.{waits, d_psi_kind_at, ruled, d_psi_answer}
+use Rattle.machine.specs.PsiCalls.{waits, d_psi_kind_at, d_psi_refuses, ruled, d_psi_answer}
 use Rattle.machine.proofs.PsiLaws.{sound_n, sound_n1, sound_n2, accepted_at, accepted_length, accepted_lent, ruled_refuses}
 use Rattle.panoc_engine.specs.declared.outcome.Outcome.TheVariants as O
 use Rattle.panoc_engine.specs.declared.outcome.Refusal.{Refusal}
 use Rattle.panoc_engine.specs.Told.{refusal_number}
 use Rattle.alm_factory.specs.declared.records.DPsi.{DPsi}
 use Rattle.alm_factory.specs.declared.records.DPsiMoved.{DPsiMoved}
+use Rattle.alm_factory.specs.declared.records.DPsiRun.{DPsiRun}
 use Rattle.alm_factory.specs.declared.records.PsiQuestion.TheVariants as Q
 use Rattle.alm_factory.specs.declared.records.DPsiPhase.{DPsiPhase}
 use Rattle.alm_factory.specs.declared.records.DPsiPhase.TheVariants as P
@@ -178,4 +181,17 @@ module _ (s : DPsi) (a : R.Reply) (v us : List Float) (k : Option Kind) (e : k �
       let q : answer_refusal (waits d_psi_kind_at (sizes_of s.sizes) (d_psi_phase_of s.phase)) a (length v) (eqb (length us) s.sizes.n) ≡ refusal_number f = rw (← e) (sym z) in
       rw q (sym (ruled_refuses (refusal_number f) (d_psi_run s l) (d_psi_move binary64 (d_psi_phase_of s.phase) a v (d_psi_run s l)) (refusal_some f)))
 
-pub ruleset answers = (accepts, answered, handed, refused)
+  -- a refused answer leaves what it does not write
+  pub stays : {R : Type 0} (l : List Float) (x : R) → Stays (d_psi_refuses (d_psi_run s l) a (length v) (length us)) x x
+  stays l x = unwritten _ x
+
+  pub stays_not : {R : Type 0} (l : List Float) (x y : R) → 0 ≡ answer_refusal k a (length v) (eqb (length us) s.sizes.n)
+      → Stays (d_psi_refuses (d_psi_run s l) a (length v) (length us)) x y
+  unfolding d_psi_run
+  stays_not l x y z = not_refused _ x y (rw (← e) (sym z))
+
+pub ruleset answers = (accepts, answered, handed, refused, stays)
+
+-- a run by value stays where its parts do
+pub run_stays : (k : ℕ) (run : DPsiRun) (s : DPsi) (l : List Float) → Stays k run.d_psi s → Stays k run.board l → Stays k run (record { d_psi = s; board = l })
+run_stays k run s l a b = λ j e. let p = a j e in let q = b j e in rw (p, q) refl

@@ -3,3 +3,4 @@ pub mod PsiLaws
 pub mod DPsiLaws
 pub mod StartLaws
 pub mod PointLaws
+pub mod Exact

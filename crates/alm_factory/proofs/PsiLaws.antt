@@ -15,15 +15,18 @@ use Rattle.board.specs.Board.{vector, write}
 use Rattle.board.proofs.Writes.{length_vector, length_write, vector_written}
 use Rattle.board.proofs.Loops.{length_plus_over}
 use Rattle.machine.specs.Told as Say
+use Rattle.machine.specs.Waits.{Stays}
+use Rattle.machine.proofs.WaitLaws.{unwritten, not_refused}
 use Rattle.machine.specs.PsiRun as M
 use Rattle.machine.proofs.PsiLaws.{sound_n, sound_n1, sound_n2, accepted_at, accepted_length, ruled_refuses}
-use Rattle.machine.specs.PsiCalls.{waits, psi_kind_at, ruled, psi_answer}
+use Rattle.machine.specs.PsiCalls.{waits, psi_kind_at, psi_refuses, ruled, psi_answer}
 use Rattle.machine.specs.PsiMoves.{psi_move, psi_ask_f2, psi_got_cost, psi_got_f1, psi_got_projection, psi_got_f2}
 use Rattle.panoc_engine.specs.declared.outcome.Outcome.TheVariants as O
 use Rattle.panoc_engine.specs.declared.outcome.Refusal.{Refusal}
 use Rattle.panoc_engine.specs.Told.{refusal_number}
 use Rattle.alm_factory.specs.declared.records.Psi.{Psi}
 use Rattle.alm_factory.specs.declared.records.PsiMoved.{PsiMoved}
+use Rattle.alm_factory.specs.declared.records.PsiRun.{PsiRun}
 use Rattle.alm_factory.specs.declared.records.PsiQuestion.TheVariants as Q
 use Rattle.alm_factory.specs.declared.records.PsiPhase.{PsiPhase}
 use Rattle.alm_factory.specs.declared.records.PsiPhase.TheVariants as P
@@ -136,3 +139,15 @@ module _ (s : Psi) (l : List Float) (a : R.Reply) (v : List Float) (k : Option K
   refused f z =
       let q : answer_refusal (waits psi_kind_at (sizes_of s.sizes) (psi_phase_of s.phase)) a (length v) true ≡ refusal_number f = rw (← e) (sym z) in
       rw q (sym (ruled_refuses (refusal_number f) (psi_run s l) (psi_move binary64 (psi_phase_of s.phase) a v (psi_run s l)) (refusal_some f)))
+
+  -- a refused answer leaves what it does not write
+  pub stays : {R : Type 0} (x : R) → Stays (psi_refuses (psi_run s l) a (length v)) x x
+  stays x = unwritten _ x
+
+  pub stays_not : {R : Type 0} (x y : R) → 0 ≡ answer_refusal k a (length v) true → Stays (psi_refuses (psi_run s l) a (length v)) x y
+  unfolding psi_run
+  stays_not x y z = not_refused _ x y (rw (← e) (sym z))
+
+-- a run by value stays where its parts do
+pub run_stays : (k : ℕ) (run : PsiRun) (s : Psi) (l : List Float) → Stays k run.psi s → Stays k run.board l → Stays k run (record { psi = s; board = l })
+run_stays k run s l a b = λ j e. let p = a j e in let q = b j e in rw (p, q) refl

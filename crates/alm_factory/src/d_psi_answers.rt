@@ -7,7 +7,8 @@ ghost use Rattle.board.specs.Board.{vector};
 ghost use Rattle.machine.specs.Told.{given};
 ghost use Rattle.machine.specs.PsiRun.{refuses};
 ghost use Rattle.machine.specs.PsiMoves.{d_psi_move};
-ghost use Rattle.machine.specs.PsiCalls.{d_psi_answer, handed_out};
+ghost use Rattle.machine.specs.Waits.{Stays};
+ghost use Rattle.machine.specs.PsiCalls.{d_psi_refuses, d_psi_answer, handed_out};
 ghost use Rattle.panoc_engine.specs.Values.{reply_of, kind_of};
 ghost use Rattle.alm_factory.specs.Values.{d_psi_phase_of, told_of};
 ghost use Rattle.alm_factory.specs.Runs.{GRADIENT, d_psi_run, d_psi_of, d_psi_left, d_psi_stepped, d_psi_gave, DPsiAccepts};
@@ -87,6 +88,8 @@ pub fn d_psi_answer_in_place(
 ) -> DPsiStepped
     ensures run { d_psi_stepped result board.new ≡ d_psi_answer binary64 (reply_of a) v.now res.old (d_psi_run s board.old) }
     ensures wrote { res.new ≡ handed_out (d_psi_stepped result board.new) res.old }
+    ensures state { Stays (d_psi_refuses (d_psi_run s board.old) (reply_of a) (length v.now) (length res.old)) s result.state }
+    ensures board { Stays (d_psi_refuses (d_psi_run s board.old) (reply_of a) (length v.now) (length res.old)) board.old board.new }
 {
     let fits = res.len() == s.sizes.n;
     match refusal(d_psi_waits(s), a, v.len(), fits) {
@@ -112,6 +115,7 @@ pub fn d_psi_answer_in_place(
 pub fn d_psi_answer(mut run: DPsiRun, a: Reply, v: &[f64], res: &mut [f64]) -> DPsiAnswered
     ensures run { d_psi_gave result ≡ d_psi_answer binary64 (reply_of a) v.now res.old (d_psi_of run) }
     ensures wrote { res.new ≡ handed_out (d_psi_gave result) res.old }
+    ensures stays { Stays (d_psi_refuses (d_psi_of run) (reply_of a) (length v.now) (length res.old)) run result.run }
 {
     let r = d_psi_answer_in_place(run.d_psi, a, v, res, &mut run.board);
     run.d_psi = r.state;

@@ -5,7 +5,8 @@ ghost use Rattle.model.specs.Refusals.{answer_refusal};
 ghost use Rattle.model.specs.Refusals as R;
 ghost use Rattle.machine.specs.PsiRun.{refuses};
 ghost use Rattle.machine.specs.PsiMoves.{psi_move};
-ghost use Rattle.machine.specs.PsiCalls.{waits, psi_kind_at, psi_answer};
+ghost use Rattle.machine.specs.Waits.{Stays};
+ghost use Rattle.machine.specs.PsiCalls.{waits, psi_kind_at, psi_refuses, psi_answer};
 ghost use Rattle.panoc_engine.specs.Values.{reply_of, kind_of};
 ghost use Rattle.alm_factory.specs.Values.{sizes_of, psi_phase_of};
 ghost use Rattle.alm_factory.specs.Runs.{psi_run, psi_of, psi_left, psi_stepped, psi_gave, PsiAccepts};
@@ -73,9 +74,11 @@ pub fn step(a: Reply, v: &[f64], s: Psi, board: &mut [f64]) -> PsiMoved
 }
 
 // An answer to the question of a run in place: v is the vector where one is answered.
-#[tactic(auto, using(crate::proofs::PsiLaws::answered, crate::proofs::PsiLaws::refused))]
+#[tactic(auto, using(crate::proofs::PsiLaws::answered, crate::proofs::PsiLaws::refused, crate::proofs::PsiLaws::stays))]
 pub fn psi_answer_in_place(s: Psi, a: Reply, v: &[f64], board: &mut [f64; 256]) -> PsiStepped
-    ensures { psi_stepped result board.new ≡ psi_answer binary64 (reply_of a) v.now (psi_run s board.old) }
+    ensures run { psi_stepped result board.new ≡ psi_answer binary64 (reply_of a) v.now (psi_run s board.old) }
+    ensures state { Stays (psi_refuses (psi_run s board.old) (reply_of a) (length v.now)) s result.state }
+    ensures board { Stays (psi_refuses (psi_run s board.old) (reply_of a) (length v.now)) board.old board.new }
 {
     match refusal(psi_waits(s), a, v.len(), true) {
         None => {
@@ -98,7 +101,8 @@ pub fn psi_answer_in_place(s: Psi, a: Reply, v: &[f64], board: &mut [f64; 256]) 
 
 // An answer to the question of a run by value.
 pub fn psi_answer(mut run: PsiRun, a: Reply, v: &[f64]) -> PsiAnswered
-    ensures { psi_gave result ≡ psi_answer binary64 (reply_of a) v.now (psi_of run) }
+    ensures run { psi_gave result ≡ psi_answer binary64 (reply_of a) v.now (psi_of run) }
+    ensures stays { Stays (psi_refuses (psi_of run) (reply_of a) (length v.now)) run result.run }
 {
     let r = psi_answer_in_place(run.psi, a, v, &mut run.board);
     run.psi = r.state;

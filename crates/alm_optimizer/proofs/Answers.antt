@@ -11,7 +11,8 @@ use Rattle.model.proofs.Facts.{and_left, and_right}
 use Rattle.board.specs.Board.{vector, board_of}
 use Rattle.machine.specs.Told as Say
 use Rattle.machine.specs.LoopRun.{Told, Left}
-use Rattle.machine.specs.Waits.{unless_refused}
+use Rattle.machine.specs.Waits.{unless_refused, Stays}
+use Rattle.machine.proofs.WaitLaws.{unwritten, not_refused}
 use Rattle.machine.specs.LoopRest.{Sound}
 use Rattle.machine.specs.LoopCalls.{lent_right}
 use Rattle.machine.specs.LoopAnswer as Answer
@@ -22,6 +23,7 @@ use Rattle.panoc_engine.specs.declared.outcome.Refusal.{Refusal}
 use Rattle.panoc_engine.specs.Told.{refusal_number}
 use Rattle.panoc_engine.specs.Values.{reply_of}
 use Rattle.alm_engine.specs.declared.alm_cache.Alm.{Alm}
+use Rattle.alm_engine.specs.declared.alm_cache.AlmRun.{AlmRun}
 use Rattle.alm_engine.specs.Values.{loop_settings_of}
 use Rattle.alm_engine.specs.LoopBoard.{loop_board_of}
 use Rattle.alm_engine.specs.LoopRuns.{loop_run}
@@ -86,8 +88,14 @@ module _ (s : Alm) (l : List Float) (a : Reply) (v us xs : List Float) where
   unfolding Say.given
   xi_stays k n = ap (λ (x : Left). Answer.xi_after x xs) (answer_turns k n)
 
+  pub answer_stays : {R : Type 0} (x : R) → Stays number x x
+  answer_stays x = unwritten number x
+
   -- an accepted one
   module _ (n : 0 ≡ number) where
+    pub accepted_stays_not : {R : Type 0} (x y : R) → Stays number x y
+    accepted_stays_not x y = not_refused number x y (sym n)
+
     lengths : (lent_right (loop_run s l).set (length us) (length xs) ≡ true) × (answer_refusal (Answer.wanted_by (loop_run s l)) (reply_of a) (length v) true ≡ 0)
     unfolding Answer.refused_by
     lengths = lengths_at (Answer.wanted_by (loop_run s l)) (reply_of a) (length v) (lent_right (loop_run s l).set (length us) (length xs)) (sym n)
@@ -149,3 +157,7 @@ module _ (s : Alm) (l : List Float) (a : Reply) (v us xs : List Float) where
 
       pub xi_given : Say.given t (xi_filled 10 y.numbers.penalty l' xs) xs ≡ Answer.xi_after left xs
       xi_given = ap (λ (x : List Float). Say.given t x xs) xi_here ∙ ap (λ (x : Left). Answer.xi_after x xs) (e ∙ answer_goes)
+
+-- a run by value stays where its parts do
+pub run_stays : (k : ℕ) (run : AlmRun) (s : Alm) (l : List Float) → Stays k run.alm s → Stays k run.board l → Stays k run (record { alm = s; board = l })
+run_stays k run s l a b = λ j e. let p = a j e in let q = b j e in rw (p, q) refl

@@ -11,12 +11,14 @@ use Rattle.model.proofs.Facts.{and_left, and_right}
 use Rattle.board.specs.Board.{vector, write, board_of, U, BEST}
 use Rattle.machine.specs.Told as Say
 use Rattle.machine.specs.InnerRun.{Left}
-use Rattle.machine.specs.Waits.{unless_refused}
+use Rattle.machine.specs.Waits.{unless_refused, Stays}
+use Rattle.machine.proofs.WaitLaws.{unwritten, not_refused}
 use Rattle.machine.specs.InnerAnswer as Answer
 use Rattle.machine.proofs.InnerAnswers.{answered_takes}
 use Rattle.panoc_engine.specs.declared.panoc_cache.Settings.{Settings}
 use Rattle.panoc_engine.specs.declared.panoc_cache.Solve.{Solve}
 use Rattle.panoc_engine.specs.declared.panoc_cache.Reply.{Reply}
+use Rattle.panoc_engine.specs.declared.panoc_cache.Run.{Run}
 use Rattle.panoc_engine.specs.declared.panoc_cache.Question.{Question}
 use Rattle.panoc_engine.specs.declared.panoc_cache.SolverStatus.{SolverStatus}
 use Rattle.panoc_engine.specs.declared.refusals.Wanted.{Wanted}
@@ -103,6 +105,13 @@ module _ (s : Solve) (l : List Float) (a : Reply) (v us : List Float) (w : Std.O
   unfolding Answer.answer Say.given
   plan_stays n = ap (λ (x : Left). Answer.plan_after x us) (sym (refused_at (Answer.turns (run_of s l)) (Answer.answered binary64 (run_of s l) (reply_of a) v) _ _ (sym refused_is) n))
 
+  pub answer_stays : {R : Type 0} (x : R) → Stays (Answer.refused_by (run_of s l) (reply_of a) (length v) (length us)) x x
+  answer_stays x = unwritten _ x
+
+  pub accepted_stays_not : {R : Type 0} (x y : R) → 0 ≡ answer_refusal (kind_of w) (reply_of a) (length v) (eqb (length us) s.set.n)
+      → Stays (Answer.refused_by (run_of s l) (reply_of a) (length v) (length us)) x y
+  accepted_stays_not x y n = not_refused _ x y (refused_is ∙ sym n)
+
   -- an accepted one
   module _ (n : 0 ≡ answer_refusal (kind_of w) (reply_of a) (length v) (eqb (length us) s.set.n)) where
     pub accepted_places : answer_refusal (Answer.wanted_by (run_of s l)) (reply_of a) (length v) true ≡ 0
@@ -126,4 +135,8 @@ module _ (s : Solve) (l : List Float) (a : Reply) (v us : List Float) (w : Std.O
         let z : r.state.set.n ≡ s.set.n = ap (λ (x : Left). x.run.set.n) e ∙ ap (λ (x : S.Settings). x.n) c in
         ap (λ (k : ℕ). Say.given (told_of r.outcome) (vector BEST k l') us) (accepted_size ∙ sym z) ∙ ap (λ (x : Left). Answer.plan_after x us) (e ∙ answer_goes)
 
-pub ruleset answers = (refusal_some, answer_turns, plan_stays, accepted_places, accepted_room, answer_goes, plan_given)
+pub ruleset answers = (refusal_some, answer_turns, plan_stays, accepted_places, accepted_room, answer_goes, plan_given, answer_stays)
+
+-- a run by value stays where its parts do
+pub run_stays : (k : ℕ) (run : Run) (s : Solve) (l : List Float) → Stays k run.solve s → Stays k run.board l → Stays k run (record { solve = s; board = l })
+run_stays k run s l a b = λ j e. let p = a j e in let q = b j e in rw (p, q) refl

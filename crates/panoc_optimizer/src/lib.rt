@@ -6,7 +6,8 @@ ghost use Rattle.std.specs.Float.{binary64};
 ghost use Rattle.model.specs.Refusals as R;
 ghost use Rattle.board.specs.Board.{vector};
 ghost use Rattle.machine.specs.Told.{given};
-ghost use Rattle.machine.specs.InnerAnswer.{start, answer, plan_after, points};
+ghost use Rattle.machine.specs.Waits.{Stays};
+ghost use Rattle.machine.specs.InnerAnswer.{start, refused_by, answer, plan_after, points};
 ghost use Rattle.panoc_engine.specs.Told.{number_of};
 ghost use Rattle.panoc_engine.specs.Values.{akkt_of, settings_of, reply_of, told_of};
 ghost use Rattle.panoc_engine.specs.Runs.{run_of, stepped};
@@ -105,7 +106,7 @@ pub fn start(set: Settings, u: &[f64]) -> Answered
 
 // The plan lies in the best half step; it is handed out where the run has ended.
 #[tactic(auto, unfolding(machine::specs::Told::given))]
-fn hand_out(outcome: Outcome, board: &[f64], u: &mut [f64])
+pub fn hand_out(outcome: Outcome, board: &[f64], u: &mut [f64])
     requires { 64 * BEST + length u.old ≤ length board.now }
     ensures { u.new ≡ given (told_of outcome) (vector BEST (length u.old) board.now) u.old }
 {
@@ -126,6 +127,8 @@ pub fn answer_in_place(
 ) -> Stepped
     ensures run { stepped result board.new ≡ answer binary64 (run_of s board.old) (reply_of a) v.now u.old }
     ensures plan { u.new ≡ plan_after (answer binary64 (run_of s board.old) (reply_of a) v.now u.old) u.old }
+    ensures state { Stays (refused_by (run_of s board.old) (reply_of a) (length v.now) (length u.old)) s result.state }
+    ensures board { Stays (refused_by (run_of s board.old) (reply_of a) (length v.now) (length u.old)) board.old board.new }
 {
     if let Some(refusal) = refusal(wants(s), a, v.len(), u.len() == s.set.n) {
         return Stepped {
@@ -142,6 +145,7 @@ pub fn answer_in_place(
 pub fn answer(mut run: Run, a: Reply, v: &[f64], u: &mut [f64]) -> Answered
     ensures run { gave result ≡ answer binary64 (run_of run.solve run.board) (reply_of a) v.now u.old }
     ensures plan { u.new ≡ plan_after (answer binary64 (run_of run.solve run.board) (reply_of a) v.now u.old) u.old }
+    ensures stays { Stays (refused_by (run_of run.solve run.board) (reply_of a) (length v.now) (length u.old)) run result.run }
 {
     let r = answer_in_place(run.solve, a, v, u, &mut run.board);
     run.solve = r.state;

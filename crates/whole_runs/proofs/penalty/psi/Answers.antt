@@ -19,7 +19,7 @@ loop-a-preserved c =
     let n = c.next.ensures in
     let last = psi_gave c.psi_answer-last.result in
     fed_more (psi_runs binary64) c.args.list.now c.loop-a.rest.now c.loop-a.a-index _ c.loop-a-test.true c.loop-a.invariant _ c.next.result.1.now n.vector n.rest last.told tt last.run
-    (psi_answer_met _ _ _ last c.psi_answer-last.ensures)
+    (psi_answer_met _ _ _ last c.psi_answer-last.ensures.run)
 
 pub returns : goal.returns
 returns c =
