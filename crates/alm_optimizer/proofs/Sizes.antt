@@ -23,7 +23,7 @@ use Rattle.alm_engine.specs.declared.alm_cache.AlmPhase.TheVariants as A
 use Rattle.alm_engine.specs.Values.{loop_settings_of, loop_phase_of}
 use Rattle.alm_engine.specs.LoopBoard.{loop_board_of}
 use Rattle.alm_engine.specs.LoopRuns.{loop_run}
-use Rattle.alm_optimizer.specs.Sizes.{carries_xi, first_places_at, second_places_at}
+use Rattle.alm_optimizer.specs.Sizes.{carries_xi, first_places_at, inner_second, second_places_at}
 use Rattle.alm_optimizer.proofs.Shows.{xi_places}
 
 -- the points of a question have x and y places
@@ -98,7 +98,7 @@ module _ (s : Alm) (l : List Float) where
       by false e = tt
 
 -- ---- no point has more than 64 places
-xi_room : (n1 n2 : ℕ) → n1 ≤ 32 → xi_length n1 n2 ≤ 33
+pub xi_room : (n1 n2 : ℕ) → n1 ≤ 32 → xi_length n1 n2 ≤ 33
 unfolding xi_length
 xi_room n1 n2 a = by (eqb n1 0 && eqb n2 0)
   where
@@ -106,24 +106,34 @@ xi_room n1 n2 a = by (eqb n1 0 && eqb n2 0)
     by true = omega arith
     by false = omega arith
 
-inner_room : (n x : ℕ) (k : Phase) → n ≤ 64 → x ≤ 33 → (Places.first_places n k ≤ 64) × (cond (carries_xi k) x (Places.second_places n k) ≤ 64)
-inner_room n x P.Over h w = (omega arith, omega arith)
-inner_room n x P.Cost h w = (omega arith, omega arith)
-inner_room n x P.Gradient h w = (omega arith, omega arith)
-inner_room n x P.Shifted h w = (omega arith, omega arith)
-inner_room n x P.Project h w = (omega arith, omega arith)
-inner_room n x P.HalfCost h w = (omega arith, omega arith)
-inner_room n x P.DoubledProject h w = (omega arith, omega arith)
-inner_room n x P.DoubledCost h w = (omega arith, omega arith)
-inner_room n x P.Direction h w = (omega arith, omega arith)
-inner_room n x P.FirstCost h w = (omega arith, omega arith)
-inner_room n x P.FirstGradient h w = (omega arith, omega arith)
-inner_room n x P.FirstProject h w = (omega arith, omega arith)
-inner_room n x P.TriedCost h w = (omega arith, omega arith)
-inner_room n x P.TriedGradient h w = (omega arith, omega arith)
-inner_room n x P.TriedProject h w = (omega arith, omega arith)
-inner_room n x P.Time h w = (omega arith, omega arith)
-inner_room n x P.LastCost h w = (omega arith, omega arith)
+inner_room : (n x : ℕ) (k : Phase) → n ≤ 64 → x ≤ 33 → (Places.first_places n k ≤ 64) × (cond (carries_xi k) x (Places.second_places n k) ≤ 64) × (Places.second_places n k ≤ 64)
+inner_room n x P.Over h w = (omega arith, omega arith, omega arith)
+inner_room n x P.Cost h w = (omega arith, omega arith, omega arith)
+inner_room n x P.Gradient h w = (omega arith, omega arith, omega arith)
+inner_room n x P.Shifted h w = (omega arith, omega arith, omega arith)
+inner_room n x P.Project h w = (omega arith, omega arith, omega arith)
+inner_room n x P.HalfCost h w = (omega arith, omega arith, omega arith)
+inner_room n x P.DoubledProject h w = (omega arith, omega arith, omega arith)
+inner_room n x P.DoubledCost h w = (omega arith, omega arith, omega arith)
+inner_room n x P.Direction h w = (omega arith, omega arith, omega arith)
+inner_room n x P.FirstCost h w = (omega arith, omega arith, omega arith)
+inner_room n x P.FirstGradient h w = (omega arith, omega arith, omega arith)
+inner_room n x P.FirstProject h w = (omega arith, omega arith, omega arith)
+inner_room n x P.TriedCost h w = (omega arith, omega arith, omega arith)
+inner_room n x P.TriedGradient h w = (omega arith, omega arith, omega arith)
+inner_room n x P.TriedProject h w = (omega arith, omega arith, omega arith)
+inner_room n x P.Time h w = (omega arith, omega arith, omega arith)
+inner_room n x P.LastCost h w = (omega arith, omega arith, omega arith)
+
+-- of the second point of a question of the inner solve, for any run
+second_at_most : (n : ℕ) (k : Phase) → n ≤ 64 → Places.second_places n k ≤ 64
+second_at_most n k h = (inner_room n 0 k h (omega arith)).2
+
+pub room_with : (s : Alm) → carries_xi s.solve.phase ≡ true → s.set.n1 ≤ 32 → inner_second s ≤ 33
+room_with s e h = let w = xi_room s.set.n1 s.set.n2 h in rw e w
+
+pub room_without : (s : Alm) → carries_xi s.solve.phase ≡ false → s.solve.set.n ≤ 64 → inner_second s ≤ 64
+room_without s e h = let w = second_at_most s.solve.set.n s.solve.phase h in rw e w
 
 -- of a run that a start made
 module _ (s : Alm) (l : List Float) (e : sound (loop_run s l) ≡ true) where
@@ -139,7 +149,7 @@ module _ (s : Alm) (l : List Float) (e : sound (loop_run s l) ≡ true) where
   room_at A.Over h = (omega arith, omega arith)
   room_at A.Time h = (omega arith, omega arith)
   room_at A.ProjectY h = (omega (arith, size_n1), omega arith)
-  room_at A.Inner h = inner_room s.solve.set.n (xi_length s.set.n1 s.set.n2) s.solve.phase (omega (arith, h refl, size_n)) (xi_room s.set.n1 s.set.n2 size_n1)
+  room_at A.Inner h = let r = inner_room s.solve.set.n (xi_length s.set.n1 s.set.n2) s.solve.phase (omega (arith, h refl, size_n)) (xi_room s.set.n1 s.set.n2 size_n1) in (r.0, r.1)
   room_at A.F1 h = (size_n, omega arith)
   room_at A.ProjectC h = (omega (arith, size_n1), omega arith)
   room_at A.F2 h = (size_n, omega arith)

@@ -114,7 +114,7 @@ fn own_points(set: AlmSettings, phase: AlmPhase) -> Option<Located>
 // Of the question of a run; none where it has ended. Taken into its callers, which read of a small part for C what they need.
 #[tactic(auto, using(crate::proofs::Shows::places))]
 #[inline(always)]
-fn points_at(s: Alm) -> Option<Located>
+pub fn points_at(s: Alm) -> Option<Located>
     ensures points { (l : List Float) → 768 ≤ length l → pair_of (question_of (loop_run s l)) ≡ lying s.set result l }
     ensures room { roomy s.set result }
 {

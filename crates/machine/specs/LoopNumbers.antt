@@ -13,12 +13,12 @@ question_number Asked.project_c = 9
 question_number Asked.f2 = 10
 question_number Asked.cost = 11
 
--- the question that a number tells; one of no question is TIME
+-- the question that a number tells; one of no question is the last COST
 abbrev pub questions : List Asked
 questions = map Asked.inner Inner.questions ++ (Asked.time ∷ Asked.project_y ∷ Asked.f1 ∷ Asked.project_c ∷ Asked.f2 ∷ Asked.cost ∷ [])
 
 abbrev pub question_of : ℕ → Asked
-question_of m = get_or questions m Asked.time
+question_of m = get_or questions m Asked.cost
 
 abbrev pub end_number : Numbers → ℕ
 end_number e = Inner.status_number e.status

@@ -12,12 +12,12 @@ question_number Asked.f2 = 10
 question_number Asked.jf1t = 12
 question_number Asked.jf2t = 13
 
--- the question that a number tells; one of no question is COST
+-- the question that a number tells; one of no question is the Jacobian product of F2
 abbrev pub others : List Asked
-others = replicate 6 Asked.cost ++ (Asked.f1 ∷ Asked.project_c ∷ Asked.f2 ∷ Asked.cost ∷ Asked.jf1t ∷ Asked.jf2t ∷ [])
+others = replicate 6 Asked.jf2t ++ (Asked.f1 ∷ Asked.project_c ∷ Asked.f2 ∷ Asked.jf2t ∷ Asked.jf1t ∷ [])
 
 abbrev pub question_of : ℕ → Asked
-question_of m = get_or (Asked.cost ∷ Asked.gradient ∷ others) m Asked.cost
+question_of m = get_or (Asked.cost ∷ Asked.gradient ∷ others) m Asked.jf2t
 
 -- the phases of psi; a number of none is over
 abbrev pub psi_phase_number : PsiPhase → ℕ
